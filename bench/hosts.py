@@ -2,9 +2,10 @@
 """Times renderings in one process: bench/hosts.py SECONDS, with JT_LIBRARY the shared library of bindings/build.sh
 
 The workloads are the folders of examples/ and of speed/templates/. Of each it prints microseconds of processor time for a rendering,
-of three kinds, and after a time of Jinja2 how many times that of `jt` it is:
+of four kinds, and after a time of Jinja2 how many times that of `jt` it is:
 
     ready    of templates that were compiled before, for a context that was read before (for Jinja2 a dictionary)
+    deadline as `ready`, with a deadline that is not reached
     run      of templates that were compiled before, for a context in JSON
     whole    of sources, for a context in JSON
 
@@ -39,7 +40,7 @@ def sources_of(folder):
 
 def workloads():
     """Each with its name, its entry, its sources, its options, its context in JSON and, of an example, its text."""
-    for folder in sorted((HERE.parent / "examples").iterdir()):
+    for folder in sorted(file.parent for file in (HERE.parent / "examples").glob("*/command")):
         entry, *words = (folder / "command").read_text().split()
         names = {word.replace("--no-", "").replace("--", "").replace("-", "_"): not word.startswith("--no-") for word in words}
         wanted = (folder / "expected").read_bytes().decode()
@@ -89,6 +90,7 @@ def by_jt(entry, sources, options, text):
     image, context = Template(entry, sources, options).compile(), Context(text)
     return memory_of(image, context), {
         "ready": lambda: image.run(context, BUDGET),
+        "deadline": lambda: image.run(context, BUDGET, timeout=60),
         "run": lambda: image.run(text, BUDGET),
         # (A template keeps its image, so each call makes one anew.)
         "whole": lambda: Template(entry, sources, options).render(text, BUDGET),

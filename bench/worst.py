@@ -4,14 +4,22 @@
     bench/worst.py [--jt PATH] [--fuel N] [--size N] [--rows N] [--chains N] [--most SECONDS] [WORD ..]
 
 Without --jt it takes the program that `rt run` keeps, crates/jt_cli/out/jt_cli. Each form stands in a loop that --fuel (100,000) ends.
-A row has the microseconds of processor time for a unit, the seconds that the default budget of 1,000,000 units lasts at that rate, and
-the form with the names of its operands (OPERANDS below). Reading the context is measured apart and taken off. A run is ended after --cap
-(5) seconds; its row then has a `>`. The --rows (40) slowest forms are printed, the slowest first; with words, all forms that have one of
-them. With --size N the run has that limit of sizes, and lists have a quarter of it as items. --chains N adds N chains of two or three filters,
-chosen at random. The status is 1 if a form is slower than --most (15 seconds for the default budget).
+A row has the microseconds of processor time for a unit, the seconds that the default budget of 1,000,000 units lasts at that rate, how
+many ready runs of the table of bench/speed last as long, by which machines compare, and the form with the names of its operands (OPERANDS
+below). Reading the context is measured apart and taken off. A run is ended after --cap (5) seconds; its row then has a `>`. The --rows (40)
+slowest forms are printed, the slowest first; with words, all forms that have one of them. With --size N the run has that limit of sizes,
+and lists have a quarter of it as items. --chains N adds N chains of two or three filters, chosen at random. Forms in turns share the fuel
+among 64 sessions, whose turns are one instruction. The status is 1 if a form is slower than --most (15 seconds for the default budget).
 """
 import json, os, pathlib, random, resource, subprocess, sys, tempfile
+from typing import List, NamedTuple
+
 from timing import flags, timed
+
+sys.path.insert(0, str(pathlib.Path(__file__).resolve().parent / "speed"))
+from count import BUDGET
+from count import HERE as SPEED
+from make_contexts import write
 
 MILLION = 1_000_000
 DEFAULT = 1_000_000
@@ -60,6 +68,11 @@ def operands(items, length):
         "words": [f"{random.randrange(10**9):09}" for _ in range(items // 10)],
         "distinct": random.sample([f"{i:05}" for i in range(10**5)], min(items // 6, 10**5)),
         "alike": ["a" * 990 + f"{i:09}" for i in range(items // 1000)],
+        "nearly": "a" * 990 + "b",
+        "heads": {"a" * 990 + f"{i:09}": i for i in random.sample(range(items // 1000), items // 1000)},
+        "heads2": {"a" * 990 + f"{i:09}": i for i in range(items // 1000)},
+        "rows": [[0] * 20 + [i] for i in random.sample(range(items // 22), items // 22)],
+        "tables": [[["a", [i]]] for i in random.sample(range(items // 5), items // 5)],
         "keys": {f"{i:06}": i for i in range(items // 8)},
         "turned": {f"{i:06}": i for i in reversed(range(items // 8))},
         "scattered": {f"{i:06}": i for i in random.sample(range(items // 8), items // 8)},
@@ -112,6 +125,16 @@ def expressions():
     yield from ["text == text2", "text < text2", "text is eq text2", "text is lt text2", "numbers == numbers2", "numbers < numbers2", "-1 in numbers", "999999 in numbers", "word in words", "deep == deep", "keys in voids", "alike|unique", "letters|unique", "greek|unique|sort", "shuffled|sort|unique", "(great + ['a'])|unique", "(shuffled + [true])|unique", "[text, text, text, text]|join", "[keys, turned]|unique", "[numbers, numbers2]|unique", "[scattered, turned]|unique", "[text, text2]|sort", "[text, text2]|unique"]
     for x in ["short", "words", "slices", "few", "keys", "letter"]:
         yield from [f"{x}|select('in', {whole})" for whole in ["text", "letters", "binary", "fibonacci", "greek", "half"]]
+    # texts that are almost equal, keys with long common beginnings, lists of lists
+    for x in ["alike", "heads", "[text, text2]", "[text, half, text2]"]:
+        yield from [f"{x}|map('replace', {part}, letter)" for part in ["nearly", "half", "alike[0]", "alike[1]"]]
+    for part in ["nearly", "half", "text", "text2", "alike[0]"]:
+        yield from [f"{x}|replace({part}, {new})" for x in ["text", "text2", "fibonacci"] for new in ["''", "letter", part]]
+    for x in ["alike", "heads", "heads|list", "heads|items"]:
+        yield from [f"{x}|sort", f"{x}|sort(true)", f"{x}|unique", f"{x}|unique|sort", f"{x}|max", f"{x}|select('in', alike)", f"{x}|select('in', heads)"]
+    yield from ["heads|dictsort", "heads == heads2", "[heads, heads2]|unique", "heads in [heads2]", "nearly in heads"]
+    for x in ["rows", "tables", "(rows + rows)", "(tables + rows)", "[rows, rows]", "[rows, tables]", "rows|map('reverse')"]:
+        yield from [f"{x}|unique", f"{x}|sort", f"{x}|unique|length", f"{x}|select('in', rows)", f"{x}|select('in', tables)", f"{x} == rows", f"[0] in {x}"]
     # little that is read and much that is made
     for n in ["10", "100", "1000", "10000", "100000", "1000000"]:
         yield from [f"letter * {n}", f"range({n})", f"range(0, -{n}, -1)", f"range({n})|length", f"range({n})[0]", f"3 in range({n})", f"range({n}) == range({n})", f"range({n})|sum", f"(letter * {n})|length", f"(letter|safe) * {n}"]
@@ -155,6 +178,21 @@ STATEMENTS = {
     "if with elif": ("", "{% if 0 %}{% elif 0 %}{% else %}{% endif %}"),
     "text": ("", "x"),
 }
+
+
+def within(count, begin, inside, end):
+    """A statement in itself, a number of times."""
+    return begin * count + inside + end * count
+
+
+# Captures in captures: each level copies what is in it. (A long text spends the output at once.)
+for deep in (2, 10, 90):
+    for operand, inside in (("word", "{{ word }}"), ("", "x"), ("", "")):
+        named = f"of {operand or inside or 'nothing'}, nested {deep} deep"
+        STATEMENTS[f"set of a block {named}"] = operand, within(deep, "{% set c %}", inside, "{% endset %}")
+        STATEMENTS[f"set of a block that is printed {named}"] = operand, within(deep, "{% set c %}", inside, "{% endset %}{{ c }}")
+        STATEMENTS[f"filter upper {named}"] = operand, within(deep, "{% filter upper %}", inside, "{% endfilter %}")
+        STATEMENTS[f"filter trim {named}"] = operand, within(deep, "{% filter trim %}", inside, "{% endfilter %}")
 FRAME = (
     "{% macro m(x) %}{% endmacro %}{% macro d(a=1, b='y', c='x') %}{% endmacro %}"
     + "{% macro h(" + ", ".join(f"a{i}={i}" for i in range(100)) + ") %}{% endmacro %}{% block k %}{% endblock %}"
@@ -179,12 +217,29 @@ def names_of(form):
     return sorted({word for word in words if word in OPERANDS})
 
 
+class Form(NamedTuple):
+    """A form with its operands, and the number of sessions that run it in turns of one instruction."""
+
+    name: str
+    operands: List[str]
+    source: str
+    sessions: int = 1
+
+
+# What sessions in turns do: little in each instruction, or much.
+TURNS = ["text", "emit of nothing", "set of a list", "macro", "include", "block", "set of an empty block", "for over the empty list", "set of a range", "filter"]
+SESSIONS = 64
+
+
 def forms(count=0):
-    """The name of each form, its operands and its source. A number of chains of filters is among them."""
+    """All forms. A number of chains of filters is among them."""
     for text in dict.fromkeys([*expressions(), *chains(count)]):
-        yield text, names_of(text), "{% if " + text + " %}{% endif %}"
+        yield Form(text, names_of(text), "{% if " + text + " %}{% endif %}")
     for name, (operands, source) in STATEMENTS.items():
-        yield name, operands.split(), source
+        yield Form(name, operands.split(), source)
+    for name in TURNS:
+        operands, source = STATEMENTS[name]
+        yield Form(f"{name}, in turns", operands.split(), source, SESSIONS)
 
 
 class Bench:
@@ -197,42 +252,63 @@ class Bench:
         pathlib.Path(folder, "d", "empty").write_text("")
         pathlib.Path(folder, "d", "tags").write_text("{{ '' }}" * 1000)
 
-    def run(self, operands, source, fuel):
-        pathlib.Path(self.folder, "d", "t").write_text(source)
-        words = [self.jt, "render", "d", "t", f"{'+'.join(operands) or 'none'}.json", "--fuel", str(fuel), *self.limits]
+    def timed(self, *words):
         limit = lambda: resource.setrlimit(resource.RLIMIT_CPU, (self.cap, self.cap))
-        return timed(words, cwd=self.folder, stdin=subprocess.DEVNULL, preexec_fn=limit)
+        return timed([self.jt, *map(str, words)], cwd=self.folder, stdin=subprocess.DEVNULL, preexec_fn=limit)
 
-    def base(self, operands):
+    def run(self, form, source, fuel):
+        """Runs a source with the operands of a form, in its sessions."""
+        pathlib.Path(self.folder, "d", "t").write_text(source)
+        context = f"{'+'.join(form.operands) or 'none'}.json"
+        if form.sessions == 1:
+            return self.timed("render", "d", "t", context, "--fuel", fuel, *self.limits)
+        subprocess.run([self.jt, "compile", "d", "t", "image"], cwd=self.folder, check=True)
+        pairs = ["image", context] * form.sessions
+        return self.timed("turns", *pairs, "--slice", 1, "--fuel", fuel // form.sessions, *self.limits)
+
+    def base(self, form):
         """The seconds that a template takes which only names the operands."""
-        key = "+".join(operands) or "none"
+        key = "+".join(form.operands) or "none", form.sessions
         if key not in self.read:
-            pathlib.Path(self.folder, f"{key}.json").write_text(json.dumps({name: OPERANDS[name] for name in operands}))
-            source = FRAME + "".join("{% if false %}{{ " + name + " }}{% endif %}" for name in operands)
-            self.read[key] = min(self.run(operands, source, DEFAULT)[0] for _ in range(3))
+            pathlib.Path(self.folder, f"{key[0]}.json").write_text(json.dumps({name: OPERANDS[name] for name in form.operands}))
+            source = FRAME + "".join("{% if false %}{{ " + name + " }}{% endif %}" for name in form.operands)
+            self.read[key] = min(self.run(form, source, DEFAULT)[0] for _ in range(3))
         return self.read[key]
 
-    def unit(self, operands, source):
+    def unit(self, form):
         """The microseconds for a unit of fuel, and how the run ended."""
-        base = self.base(operands)
-        took, ran = self.run(operands, FRAME + LOOPS[0] + source + LOOPS[1], self.fuel)
+        base = self.base(form)
+        took, ran = self.run(form, FRAME + LOOPS[0] + form.source + LOOPS[1], self.fuel)
         told = (ran.stderr or ran.stdout).decode(errors="replace").strip().split("\n")[0]
         if ran.returncode < 0:
             told = "still going"
         return max(took - base, 0) / self.fuel * MILLION, told
 
+    def ready(self):
+        """The seconds of a ready run of the table: those of 64 sessions, without reading their contexts."""
+        folder = pathlib.Path(self.folder, "speed")
+        (folder / "letter").mkdir(parents=True)
+        (folder / "letter" / "main").write_text("x")
+        write(folder)
+        took = []
+        for source in (folder / "letter", SPEED / "templates" / "table"):
+            subprocess.run([self.jt, "compile", source, "main", folder / "image"], check=True)
+            pairs = [folder / "image", folder / "table.json"] * SESSIONS
+            took.append(min(self.timed("turns", *pairs, "--slice", MILLION, *BUDGET)[0] for _ in range(3)))
+        return max(took[1] - took[0], 1e-9) / SESSIONS
+
 
 def measure(bench, asked, found, others):
     """Adds the forms that have one of the words, if there are words, to those that were spent or to the others."""
     words = asked.words
-    for name, operands, source in forms(asked.chains):
-        if words and not any(word in name for word in words):
+    for form in forms(asked.chains):
+        if words and not any(word in form.name for word in words):
             continue
-        micros, told = bench.unit(operands, source)
+        micros, told = bench.unit(form)
         if told == "still going" or "spent Fuel" in told:
-            found.append((micros, told == "still going", name))
+            found.append((micros, told == "still going", form.name))
         else:
-            others.setdefault(told.split(" at ")[0][:40], []).append(name)
+            others.setdefault(told.split(" at ")[0][:40], []).append(form.name)
 
 
 def main():
@@ -250,15 +326,17 @@ def main():
     found, others = [], {}
     with tempfile.TemporaryDirectory() as folder:
         bench = Bench(asked.jt, asked, folder)
+        ready = bench.ready()
         try:
             measure(bench, asked, found, others)
         except KeyboardInterrupt:
             print("(interrupted: these forms were measured)")
     found.sort(reverse=True)
-    print("us a unit | seconds for the default budget | form")
+    print(f"a ready run of the table takes {ready * 1000:.2f} milliseconds")
+    print("us a unit | seconds for the default budget | ready runs of the table | form")
     for micros, is_going, name in found if asked.words else found[: asked.rows]:
-        sign = ">" if is_going else " "
-        print(f"{sign}{micros:9.2f} | {sign}{micros * DEFAULT / MILLION:9.2f} | {name}")
+        sign, seconds = ">" if is_going else " ", micros * DEFAULT / MILLION
+        print(f"{sign}{micros:9.2f} | {sign}{seconds:9.2f} | {sign}{seconds / ready:9.0f} | {name}")
     print(f"{len(found)} forms were spent")
     for told, names in sorted(others.items()):
         print(f"{len(names)} forms ended with {told}" + (f": {', '.join(names)}" if asked.words else f", as {names[0]}"))

@@ -11,26 +11,8 @@ set -u
 program=$(realpath "${1:?usage: bindings/packages.sh PROGRAM}") || exit 2
 here=$(realpath "$(dirname "$0")")
 library=$(realpath "${JT_STATIC_LIBRARY:-$here/../crates/jt_ffi/out/libjt_ffi.a}") || exit 2
-passed=0
-failed=0
-room=$(mktemp -d)
-trap 'rm -rf "$room"' EXIT
-
-# Runs one trial: its name, and a command. Shows what the command prints if it fails.
-try() {
-    local name=$1
-    shift
-    if (cd / && "$@") > "$room/said" 2>&1; then
-        passed=$((passed + 1))
-    else
-        failed=$((failed + 1))
-        echo "$name: failed"
-        tail -n 20 "$room/said"
-    fi
-}
-
-# Checks that a tool is there, and prints what is left out if it is not.
-have() { command -v "$1" > "$room/said" || { echo "left out: $1 is not installed" && false; }; }
+# shellcheck source=bindings/trials.sh
+. "$here/trials.sh"
 
 # Checks that a command prints nothing.
 is_silent() {
@@ -169,5 +151,4 @@ if have dpkg-deb && have lintian; then
     try 'lintian' lintian_is_content
 fi
 
-echo "$passed passed, $failed failed"
-[ "$failed" -eq 0 ]
+tally

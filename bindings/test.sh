@@ -3,8 +3,9 @@
 #
 # Tries C and the system; a wheel in a fresh virtual environment; the packed crate with a fresh
 # CARGO_HOME, over the static library and over what is installed under a fresh prefix; examples/;
-# the examples of the documents over the installed program and package; and what indexes and
-# distributions check of the packages (packages.sh). All is built in a temporary folder, offline,
+# the examples of the documents over the installed program and package; the language server in the
+# editors and the playground in the browser that are installed; and what indexes and distributions
+# check of the packages (packages.sh). All is built in a temporary folder, offline,
 # with neither a network nor a package of Python but pip.
 #
 # The library is that of the tree in which PROGRAM was built, or that of this tree, or the one that
@@ -12,30 +13,8 @@
 set -u
 program=$(realpath "${1:?usage: bindings/test.sh PROGRAM}") || exit 2
 here=$(realpath "$(dirname "$0")")
-passed=0
-failed=0
-room=$(mktemp -d)
-trap 'rm -rf "$room"' EXIT
-
-# Counts a trial: its name, and a command. A command whose last line is 'N passed, M failed' counts
-# as that; what a command prints is shown if it fails.
-try() {
-    local name=$1 status=0
-    shift
-    (cd / && "$@") > "$room/said" 2>&1 || status=1
-    if [[ $(tail -n 1 "$room/said") =~ ^([0-9]+)\ passed,\ ([0-9]+)\ failed$ ]]; then
-        passed=$((passed + BASH_REMATCH[1]))
-        failed=$((failed + (BASH_REMATCH[2] > 0 ? BASH_REMATCH[2] : status)))
-    else
-        passed=$((passed + 1 - status))
-        failed=$((failed + status))
-    fi
-    grep '^left out: ' "$room/said"
-    if [ "$status" -ne 0 ]; then
-        echo "$name: failed"
-        tail -n 30 "$room/said"
-    fi
-}
+# shellcheck source=bindings/trials.sh
+. "$here/trials.sh"
 
 # Checks that a command writes the text of a file.
 writes() { "${@:2}" | diff "$1" -; }
@@ -120,18 +99,29 @@ if ls -d /usr/share/cargo/registry/serde-1* > "$room/said" 2>&1; then
 fi
 
 try 'the library' test -f "$library"
-try 'C and the system' "$here/c/test.sh" "$library" "$program"
+try_script 'C and the system' "$here/c/test.sh" "$library" "$program"
 try 'a fresh prefix' make -s -C "$here" install LIBRARY="$library" PROGRAM="$program" \
     OUT="$room/out" PREFIX="$room/prefix"
 
 try 'the shared library' "$here/build.sh" "$library" "$room"
 try 'the tests in Python from the tree' python3 "$here/python/test_jt.py"
+for name in runs each forks; do
+    try "$name in Python" python3 "$here/python/test_$name.py"
+done
 try 'messages of the build in Python' python3 "$here/python/test_install.py"
 try 'the wheel in a fresh environment' environment
 try 'the tests in Python' installed_python "$here/python/test_jt.py"
+for name in runs each forks site; do
+    try "$name of the installed package" installed_python "$here/python/test_$name.py"
+done
+try_script 'the words of the language server' installed_python "$here/python/words.py"
+try_script 'the language server' installed_python "$here/python/test_lsp.py"
+try_script 'the editors' installed_python "$here/python/test_editor.py"
+try_script 'the playground' installed_python "$here/python/test_playground.py"
+try_script 'the playground in a browser' installed_python "$here/python/test_browser.py"
 try 'the example in Python' runs_the_example
 try 'examples/ in Python' installed_python "$here/python/examples.py" "$here/../examples"
-try 'the documents' documents
+try_script 'the documents' documents
 
 try 'the packed crate' pack
 try 'the tests in Rust' packed test --quiet "${features[@]}"
@@ -139,7 +129,6 @@ try 'the example in Rust' writes "$here/rust/expected" packed run --quiet --exam
 try 'the crate over the prefix' over_the_prefix
 try 'the crate without a library' without_library
 
-try 'the packages' env -u CARGO_TARGET_DIR "$here/packages.sh" "$program"
+try_script 'the packages' env -u CARGO_TARGET_DIR "$here/packages.sh" "$program"
 
-echo "$passed passed, $failed failed"
-[ "$failed" -eq 0 ]
+tally

@@ -9,7 +9,7 @@ tests/README.md, examples/README.md and all of docs/. The script checks
     each file with a line (`runs.rt:36` and a word after it)     the word is on that line
     each jt_.. name                it is a crate or a call of bindings/c/jt.h; of `jt_..::name` the crate has an item of this name
     each `Type::call`              a crate with a type of this name has the call
-    each call of contracts.md      the crate of its heading has it
+    each call, and each file of code without a link, of contracts.md      the crate of its heading has it
     each module of definitions.md  it is in specs/ of the crate
     each sentence of errors.md that `jt explain` prints     the code of jt_host has it, and each refusal of templates there has one
     each sentence of errors.md of a fault or a spent number     the same
@@ -171,14 +171,13 @@ class Checks:
             self.holds(known or kind in KIT, file, f"no call: {kind}::{call}")
 
     def promised(self, file, text, code):
-        """Checks the calls of contracts.md: each belongs to the crate of its heading."""
-        crate = None
-        for line in text.splitlines():
-            heading = re.match(r"### (jt_\w+)", line)
-            crate = heading[1] if heading else None if line.startswith("## ") else crate
-            call = re.match(r"- \*\*(`.*?`)\*\*", line)
-            for name in NAMED.findall(call[1]) if call and crate else []:
+        """Checks the calls and the files of code of contracts.md: each belongs to the crate of its heading."""
+        for crate, part in re.findall(r"^### (jt_\w+)(.*?)(?=^##|\Z)", text, re.M | re.S):
+            for name in (it for calls in re.findall(r"\*\*(`[^*]*`)\*\*", part) for it in NAMED.findall(calls)):
                 self.holds(re.search(ITEM.format(name), code.get(crate, "")), file, f"{crate} has no {name}")
+            for name in set(re.findall(r"\b\w+\.rt\b", LINK.sub("", part))):
+                there = any((ROOT / "crates" / crate / "src").rglob(name))
+                self.holds(there, file, f"{crate} has no file {name}")
 
     def quoted(self, file, text):
         """Checks the lines that a document quotes from files of code; embedding.md quotes each host."""

@@ -13,7 +13,7 @@ calls return what they return with ample memory. A run that writes has written a
 closed, which gives no outcome, and each other session ends as it does alone. With ample memory no call returns NoMemory.
 
 Writes: a run into a writer that fails at its Nth call leaves exactly the bytes that were taken before. If standard output is closed, full,
-without a reader or short of room, the status is 5, and a prefix of the text is written.
+without a reader or short of room, the status is 5, and a prefix of the text is written. Without a reader nothing is said of it.
 
 Reads: a line that reads files in pieces of 16 bytes meets a failing first read, second read, and so on: status 5 with that file's name,
 nothing on standard output, and OUT unchanged.
@@ -44,6 +44,8 @@ HERE = pathlib.Path(__file__).resolve().parent
 NO_MEMORY = (6, b"", b"jt: no memory\n")
 LIMIT = 1 << 22
 PART = 400
+# The way of writing in which the reading end of a pipe is closed.
+UNREAD = "nobody reads"
 # The line of a trial of writes: the pieces, the failing call, the calls, whether the sink has failed, the result, the text.
 WRITTEN = re.compile(r'(\d+) (\d+) (\d+) (true|false) (.*) (".*")')
 LONG = "{% for i in range(20000) %}{{ i }},{% endfor %}"
@@ -265,7 +267,7 @@ def outputs():
 
     yield "full", lambda: (os.open("/dev/full", os.O_WRONLY), 0)
     yield "that cannot be written", lambda: (os.open("/dev/null", os.O_RDONLY), 0)
-    yield "nobody reads", broken
+    yield UNREAD, broken
     yield "with little room", full_pipe
     yield "closed", lambda: (-1, 0)
 
@@ -297,7 +299,7 @@ def wrong_end(program, room, words, how, opened):
     if reads:
         os.close(reads)
     small = how == "with little room" and len(whole) < 4096
-    wanted = (0, b"") if small else (5, b"jt: file -\n")
+    wanted = (0, b"") if small else (5, b"" if how == UNREAD else b"jt: file -\n")
     is_begun = taken == whole if small else whole.startswith(taken) and len(taken) < len(whole)
     return [] if (ran.returncode, ran.stderr) == wanted and is_begun else [
         f"{' '.join(words)}, output {how}: {ran.returncode} {ran.stderr[:100]}, {len(taken)} of {len(whole)} bytes"]

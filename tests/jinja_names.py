@@ -25,6 +25,8 @@ endwith extends filter for from if import include macro pluralize print set tran
 """.split()
 # those of each environment and of its extension for translations, and that of a call block
 FUNCTIONS = "_ caller cycler dict gettext joiner lipsum namespace ngettext range".split()
+# a function of Django and of many hosts, which jt_hints names beside those of Jinja
+OTHER_FUNCTIONS = ["now"]
 
 
 def names_of(path, start, end):
@@ -60,7 +62,7 @@ def tables():
         "filter": (FILTERS, rows_of("jt_ids/specs/FilterTable.antt", "filter_row filter."), left_out("filters")),
         "test": (TESTS, rows_of("jt_ids/specs/TestTable.antt", "test_row test."), left_out("tests")),
         "statement": (STATEMENTS, statements(), [word for word in forms if word not in ("elseif", "elsif")]),
-        "function": (FUNCTIONS, ["range"], left_out("functions")),
+        "function": (FUNCTIONS, ["range"], [name for name in left_out("functions") if name not in OTHER_FUNCTIONS]),
     }
 
 

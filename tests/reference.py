@@ -25,7 +25,7 @@ import run
 ROWS = pathlib.Path(__file__).resolve().parent / "rows"
 # the contexts of an image of reference.txt
 CONTEXTS = (b"{}", b'{"n": 7}', b'{"n": [1]}')
-FLAGS = ("--trim-blocks", "--lstrip-blocks", "--keep-trailing-newline", "--no-autoescape")
+FLAGS = ("--trim-blocks", "--lstrip-blocks", "--keep-trailing-newline", "--no-autoescape", "--strict")
 MOST = 1 << 18
 PARTS = 32
 SECONDS = 600

@@ -38,12 +38,12 @@ NAMES = dict(
     G1:CodeTooLong G3:StackTooDeep X1:NotJson X2:NotObject X3:NotWhole X4:OutOfRange
     """.split()
 )
-FRONT = re.compile("(memory|output)=[0-9]+|shut=.+|2?>full")
+FRONT = re.compile("(memory|output)=[0-9]+|shut=.+|2>full|[<>].+")
 NOBODY = 65534
 HUGE = 1_000_000_000
 SPENT = ("Fuel", "Depth", "Output", "Size", "Nesting")
 # The options with which templates are read.
-READING = ("--trim-blocks", "--lstrip-blocks", "--keep-trailing-newline", "--no-autoescape")
+READING = ("--trim-blocks", "--lstrip-blocks", "--keep-trailing-newline", "--no-autoescape", "--strict")
 
 
 class Malformed(Exception):
@@ -105,13 +105,31 @@ def is_wanted(found, wanted):
     return found == wanted
 
 
+def read_from(room, front):
+    """The open file that is standard input."""
+    paths = [word[1:] for word in front if word.startswith("<")]
+    return open(room / unfolded(paths[0]) if paths else os.devnull, "rb")
+
+
+def written_to(room, front):
+    """The open file that is standard output."""
+    paths = [word[1:] for word in front if word.startswith(">")]
+    if paths == ["shut"]:
+        reading, writing = os.pipe()
+        os.close(reading)
+        return open(writing, "wb")
+    if paths == ["full"]:
+        return open("/dev/full", "wb")
+    return open(room / unfolded(paths[0]) if paths else room / ".out", "wb")
+
+
 def sent(program, words, room, front=()):
     """The status of a run in a room, what it printed and what it said, as one text."""
     out = room / ".out"
-    with open("/dev/full" if ">full" in front else out, "wb") as printed, open("/dev/full", "wb") as full:
+    with read_from(room, front) as given, written_to(room, front) as printed, open("/dev/full", "wb") as full:
         errors = full if "2>full" in front else subprocess.PIPE
         run = subprocess.run(
-            [program, *map(bytes_of, words)], cwd=room, env={}, stdin=subprocess.DEVNULL, stdout=printed, stderr=errors, timeout=SECONDS
+            [program, *map(bytes_of, words)], cwd=room, env={}, stdin=given, stdout=printed, stderr=errors, timeout=SECONDS
         )
     text = text_of(out.read_bytes()) if out.exists() else ""
     out.unlink(missing_ok=True)

@@ -15,7 +15,7 @@ The cases are
     images with the deepest stacks
     sources that are long, and sources that open a form twenty thousand times
 
-With --measure the script prints the least stack that each case needs, in steps of STEP KiB, as tables in Markdown for docs/work/stack.md.
+With --measure the script prints the least stack that each case needs, in steps of STEP KiB, as tables in Markdown.
 That of `explain` is not measured.
 
 A case that fails is a line. The last line is 'N passed, M failed', and the status is 1 if one failed.

@@ -1,7 +1,7 @@
 #!/usr/bin/env python3
 """Counts the lines of sources, definitions and proofs by crate, without blank lines and comments: tools/lines.py [COMMIT]
 
-With a commit it prints the counts of that commit, so that two trees can be compared: docs/work/size.md has the figures of some.
+With a commit it prints the counts of that commit, so that two trees can be compared.
 """
 import collections, pathlib, subprocess, sys
 

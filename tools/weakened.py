@@ -1,8 +1,10 @@
 #!/usr/bin/env python3
-"""Shows that each layer's contract is needed: tools/weakened.py [CRATE ..]
+"""Shows that each layer's contract is needed: tools/weakened.py [--here] [CRATE ..]
 
 A developer's tool, run by hand over the libraries that `.ci/run` kept on this machine. In a copy of the tree below TMPDIR it empties one
-clause of a public call, and checks the crates above until one is no longer proved. It prints a table as Markdown, with a row for each layer
+clause of a public call, and checks the crates above until one is no longer proved. With --here it works in this tree, over the work that
+tools/prove.py kept in the out/ folders, and checks only what the clause changes: that is for kits that keep nothing, in a clone of its own,
+since out/ then holds the work of the weaker texts. It prints a table as Markdown, with a row for each layer
 of LAYERS or of the named crates. The layer itself must still be proved, since an empty clause can only help it. The status is 0 if each
 layer's clause was needed.
 """
@@ -70,17 +72,20 @@ def unanswered(text, clause):
     return re.sub(rf"(?ms)^pub returns\S*{of_clause} :.*?(?=^pub |\Z)", "", text)
 
 
-def first_goal(crate):
+def first_goal(crate, here):
     """Checks the crate, and builds its library; returns whether it is proved, and the first goal that is not."""
-    verb, more = ("build", ["--statements", "-o", crate.rlib]) if crate.makes_rlib() else ("check", [])
-    words = [*rt.rtlib.guarded(), rt.rtlib.RATTLE, verb, *crate.words(["--jobs", "2"], keeps=False), *more]
+    verb, more = ("build", ["-o", crate.rlib]) if crate.makes_rlib() else ("check", [])
+    flags = crate.words(["--jobs", "2"], keeps=here)
+    # (over kept work the library is built as tools/prove.py builds it)
+    more += ["--incremental", "out/incremental"] if here else ["--statements"] if more else []
+    words = [*rt.rtlib.guarded(), rt.rtlib.RATTLE, verb, *flags, *more]
     how = {"cwd": crate.folder, "stdin": subprocess.DEVNULL, "stdout": subprocess.PIPE, "stderr": subprocess.STDOUT, "errors": "replace"}
     ran = subprocess.run(words, **how)
     open_goal = re.search(r"(?m)^fn (\S+): not proved", ran.stdout)
     return ran.returncode == 0, open_goal[1] if open_goal else "a lemma"
 
 
-def row(root, layer, file, call, clause):
+def row(root, here, layer, file, call, clause):
     """Returns the table's row of a layer, and whether its clause was needed."""
     place = f"{root}/crates/{layer}/{file}"
     text = rt.rtlib.text_of(place)
@@ -97,7 +102,7 @@ def row(root, layer, file, call, clause):
     try:
         for path, (_, now) in texts.items():
             pathlib.Path(path).write_text(now, encoding="utf-8")
-        return missed(root, layer, said)
+        return missed(root, here, layer, said)
     finally:
         for path, (was, _) in texts.items():
             pathlib.Path(path).write_text(was, encoding="utf-8")
@@ -118,7 +123,7 @@ def put_back(crates):
             os.rename(f"{crate.folder}/kept", f"{crate.folder}/out")
 
 
-def missed(root, layer, said):
+def missed(root, here, layer, said):
     """Checks the crates above the layer, from the lowest, until one is not proved."""
     apart = []
     try:
@@ -127,9 +132,10 @@ def missed(root, layer, said):
             crate.out = sys.stderr
             if crate.name != layer and not weaker & {it.name for it in crate.deps}:
                 continue
-            set_apart(crate)
-            apart.append(crate)
-            proved, goal = first_goal(crate)
+            if not here:
+                set_apart(crate)
+                apart.append(crate)
+            proved, goal = first_goal(crate, here)
             if not proved:
                 return (f"{said} {crate.name}: `{goal}` |", True) if crate.name != layer else (f"{said} not proved itself |", False)
             weaker.add(crate.name)
@@ -138,26 +144,34 @@ def missed(root, layer, said):
         put_back(apart)
 
 
-def main(names):
-    if not keeps():
-        print("this kit keeps nothing of what rt ci proved, and without it each row would prove the whole tree", file=sys.stderr)
-        return 2
+def rows(root, here, layers):
+    """Prints the table, and returns whether each clause was needed."""
+    print("| Layer | Call and clause | The first crate above that is not proved without it |\n|---|---|---|")
+    answers = []
+    for layer in layers:
+        line, well = row(root, here, *layer)
+        print(line, flush=True)
+        answers.append(well)
+    return bool(layers) and all(answers)
+
+
+def main(*words):
+    here, names = "--here" in words, [it for it in words if it != "--here"]
     layers = [it for it in LAYERS if not names or it[0] in names]
+    if here:
+        return 0 if rows(os.getcwd(), True, layers) else 1
+    if not keeps():
+        print("this kit keeps nothing of what rt ci proved: tools/prove.py, and then --here in a clone", file=sys.stderr)
+        return 2
     with tempfile.TemporaryDirectory(prefix="weakened-") as room:
         copied(room)
         lacking = give(room, lambda crate: True)
         if lacking:
             print(f"{lacking} is not kept as it stands: .ci/run makes it", file=sys.stderr)
             return 2
-        print("| Layer | Call and clause | The first crate above that is not proved without it |\n|---|---|---|")
-        answers = []
-        for layer in layers:
-            line, well = row(room, *layer)
-            print(line, flush=True)
-            answers.append(well)
-    return 0 if layers and all(answers) else 1
+        return 0 if rows(room, False, layers) else 1
 
 
 if __name__ == "__main__":
     rt.rtlib.guarded()
-    sys.exit(main(sys.argv[1:]))
+    sys.exit(main(*sys.argv[1:]))

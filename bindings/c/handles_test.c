@@ -1,40 +1,18 @@
 /* Tests the calls over handles. Prints what fails; the last line is 'N passed, M failed'. */
 #include <pthread.h>
-#include <stdio.h>
 #include <stdlib.h>
 #include <string.h>
 
 #include "expect.h"
-#include "jt.h"
-
-#define BYTES(text) (const uint8_t *)(text), strlen(text)
 
 static const struct jt_budget budget = {
     .fuel = 100000, .output = 65536, .depth = 8, .size = 65536, .nesting = 8};
 static const struct jt_options options = JT_OPTIONS;
 
-/* What a call has answered and written; the rest of the buffer is 'x'. */
-struct result {
-    struct jt_answer answer;
-    uint8_t out[256];
-};
-
-static void clear(struct result *result) { memset(result->out, 'x', sizeof result->out); }
-
-static bool same(const struct result *a, const struct result *b) {
-    return a->answer.status == b->answer.status && a->answer.code == b->answer.code &&
-           a->answer.line == b->answer.line && a->answer.letter == b->answer.letter &&
-           a->answer.length == b->answer.length && memcmp(a->out, b->out, sizeof a->out) == 0;
-}
-
-static bool is(struct jt_answer answer, uint32_t status, uint32_t code) {
-    return answer.status == status && answer.code == code;
-}
-
 /* Templates, and the image of `page`. */
 static const char texts[] = "pageHello {{ name }}!listed{% include 'page' %}bad{{ 1 + }}";
 static const struct jt_lengths lengths[] = {{4, 17}, {6, 20}, {3, 9}};
-#define TEMPLATES BYTES(texts), lengths, sizeof lengths / sizeof *lengths
+#define TEMPLATES BYTES(texts), lengths, COUNT_OF(lengths)
 static uint8_t image[4096];
 static size_t image_length;
 
@@ -68,6 +46,11 @@ static void empty_handles(void) {
     expect(is(jt_library_explain(&library, BYTES("page"), options, result.out, 256), JT_USAGE,
               JT_NOT_HELD),
            "no library to explain from");
+    clear(&result);
+    expect(is(jt_library_needs(&library, BYTES("page"), options, result.out, 256), JT_USAGE,
+              JT_NOT_HELD) &&
+               result.out[0] == 'x' && !library.full,
+           "no library that needs something");
     expect(is(jt_image_save(&nothing, result.out, 256), JT_USAGE, JT_NOT_HELD),
            "no image to save");
     expect(is(jt_image_run(&nothing, &context, budget, &outcome, result.out, 256), JT_USAGE,
@@ -98,7 +81,7 @@ static void libraries(void) {
     struct result a, b;
     expect(is(jt_library_load(TEMPLATES, &library, a.out, 256), JT_DONE, 0) && library.full,
            "a library is loaded");
-    for (size_t which = 0; which < sizeof entries / sizeof *entries; which++) {
+    for (size_t which = 0; which < COUNT_OF(entries); which++) {
         clear(&a);
         clear(&b);
         const struct jt_answer usual = jt_compile(TEMPLATES, BYTES(entries[which]), options,
@@ -139,6 +122,55 @@ static void libraries(void) {
     expect(is(jt_image_save(&made, saved, sizeof saved), JT_DONE, 0),
            "an image outlives its library");
     jt_image_free(&made);
+}
+
+/* A template that needs names and templates, and one that needs a name alone. */
+#define HOME                                                                                      \
+    "{% extends 'base' %}{% block body %}{{ title }}{% include 'ad' ignore missing %}"            \
+    "{% include 'menu' %}{% endblock %}"
+#define BASE "{{ site }}{% block body %}{% endblock %}"
+#define MENU "{% for link in links %}{{ link }}{% endfor %}"
+#define OTHER "{{ title }}"
+static const char site[] = "home" HOME "base" BASE "menu" MENU "other" OTHER;
+static const struct jt_lengths site_lengths[] = {
+    {4, LENGTH(HOME)}, {4, LENGTH(BASE)}, {4, LENGTH(MENU)}, {5, LENGTH(OTHER)}};
+
+static const char site_needs[] = "name link\nname links\nname site\nname title\n"
+                                 "template base\ntemplate home\ntemplate menu\nmissing ad\n";
+
+/* Checks what templates need, in buffers of each length, and that refusals are those of a
+ * compilation. */
+static void needs(void) {
+    const char *refused[] = {"none", "bad", "", "\xff"};
+    const size_t length = LENGTH(site_needs);
+    struct jt_library library = {0};
+    struct jt_image made = {0};
+    struct result a, b;
+    jt_library_load(BYTES(site), site_lengths, COUNT_OF(site_lengths), &library, a.out, 256);
+    for (size_t room = 0; room <= length + 1; room++) {
+        clear(&a);
+        clear(&b);
+        a.answer = jt_library_needs(&library, BYTES("home"), options, a.out, room);
+        b.answer = (struct jt_answer){.status = JT_DONE, .length = length};
+        if (room >= length) {
+            memcpy(b.out, site_needs, length);
+        }
+        expect(same(&a, &b) && library.full, "the needs of a template");
+    }
+    expect(jt_library_needs(&library, BYTES("other"), options, a.out, 256).length ==
+               LENGTH("name title\ntemplate other\n"),
+           "the needs of a template without others");
+    jt_library_load(TEMPLATES, &library, a.out, 256);
+    for (size_t which = 0; which < COUNT_OF(refused); which++) {
+        clear(&a);
+        clear(&b);
+        a.answer = jt_library_needs(&library, BYTES(refused[which]), options, a.out, 256);
+        b.answer =
+            jt_library_compile(&library, BYTES(refused[which]), options, &made, b.out, 256);
+        expect(a.answer.status != JT_DONE && same(&a, &b) && library.full,
+               "a refused template needs nothing");
+    }
+    jt_library_free(&library);
 }
 
 static void refusals(void) {
@@ -182,6 +214,9 @@ static void other_kinds(struct jt_image *kept, struct jt_context *context,
     expect(is(jt_library_explain((struct jt_library *)kept, BYTES("page"), options, a.out, 256),
               JT_USAGE, JT_NOT_HELD),
            "an image is no library to explain from");
+    expect(is(jt_library_needs((struct jt_library *)kept, BYTES("page"), options, a.out, 256),
+              JT_USAGE, JT_NOT_HELD),
+           "an image is no library that needs something");
     jt_library_load(TEMPLATES, &library, a.out, 256);
     expect(is(jt_image_run((struct jt_image *)&library, context, budget, &other, a.out, 256),
               JT_USAGE, JT_NOT_HELD),
@@ -202,7 +237,7 @@ static void runs(void) {
     struct jt_outcome outcome = {0};
     struct result a, b;
     jt_image_load(image, image_length, &kept, a.out, 256);
-    for (size_t which = 0; which < sizeof contexts / sizeof *contexts; which++) {
+    for (size_t which = 0; which < COUNT_OF(contexts); which++) {
         expect(is(jt_context_load(BYTES(contexts[which]), &context, a.out, 256), JT_DONE, 0),
                "a context replaces a context");
         for (size_t room = 0; room <= 64; room++) {
@@ -232,6 +267,95 @@ static void runs(void) {
     jt_image_free(&kept);
     expect(!context.full && !outcome.full && !kept.full, "handles are freed");
     jt_context_free(&context);
+    jt_image_free(&kept);
+}
+
+/* Contexts of which one is refused, one makes a fault, and one is longer than what is left. */
+static const char many[] = "{\"name\": 7}{\"name\": []}[1{\"name\": \"<World>\"}{}[";
+static const uint64_t many_lengths[] = {11, 12, 2, 19, 2, 7, 1};
+enum { MANY = COUNT_OF(many_lengths) };
+
+/* Writes what a call of its own answers for a context of this length. */
+static struct result one_of_many(const uint8_t *context, uint64_t length, size_t left) {
+    struct result result;
+    clear(&result);
+    if (length <= left) {
+        result.answer =
+            jt_run(image, image_length, context, (size_t)length, budget, result.out, 256);
+    } else {
+        result.answer = (struct jt_answer){.status = JT_USAGE, .code = JT_LENGTHS};
+    }
+    return result;
+}
+
+/* Checks that each result of many contexts is that of a call of its own, if the buffer has `room`
+ * bytes and there are `most` answers. */
+static void each_in(struct jt_image *kept, size_t room, size_t most) {
+    const uint8_t *contexts = (const uint8_t *)many;
+    size_t left = sizeof many - 1;
+    struct jt_outcome outcome = {0};
+    struct jt_answer answers[MANY];
+    uint8_t out[256];
+    for (size_t at = 0; at < MANY;) {
+        memset(out, 'x', sizeof out);
+        const size_t done =
+            jt_image_run_each(kept, contexts, left, many_lengths + at, MANY - at, budget, &outcome,
+                              answers, most, out, room);
+        size_t used = 0;
+        expect(0 < done && done <= most && done <= MANY - at, "the number of answers");
+        for (size_t i = 0; i < done; i++) {
+            const struct result wanted = one_of_many(contexts, many_lengths[at + i], left);
+            struct result result;
+            clear(&result);
+            result.answer = answers[i];
+            if (answers[i].length <= room - used) {
+                memcpy(result.out, out + used, answers[i].length);
+                used += answers[i].length;
+            } else {
+                expect(i + 1 == done && outcome.full, "a result that does not fit is the last");
+                result.answer = jt_outcome_read(&outcome, result.out, 256);
+                jt_outcome_free(&outcome);
+            }
+            expect(same(&result, &wanted), "a result of many");
+            if (many_lengths[at + i] <= left) {
+                contexts += many_lengths[at + i];
+                left -= many_lengths[at + i];
+            }
+        }
+        expect(!outcome.full, "no outcome is kept if each result fits");
+        expect(used == 256 || out[used] == 'x', "the rest of the buffer");
+        at += done;
+    }
+}
+
+static void each(void) {
+    struct jt_image kept = {0}, nothing = {0};
+    struct jt_outcome outcome = {0};
+    struct jt_answer answers[MANY];
+    uint8_t out[256];
+    jt_image_load(image, image_length, &kept, out, 256);
+    const int64_t held = jt_memory_held();
+    for (size_t room = 0; room <= 96; room++) {
+        each_in(&kept, room, MANY);
+        each_in(&kept, room, 2);
+    }
+    each_in(&kept, 256, 1);
+    expect(jt_memory_held() == held, "nothing is kept of many contexts");
+    expect(jt_image_run_each(&kept, BYTES(many), many_lengths, 0, budget, &outcome, answers, MANY,
+                             out, 256) == 0 &&
+               jt_image_run_each(&kept, BYTES(many), many_lengths, MANY, budget, &outcome, answers,
+                                 0, out, 256) == 0,
+           "no context, and no room for an answer");
+    expect(jt_image_run_each(&nothing, BYTES(many), many_lengths, 3, budget, &outcome, answers,
+                             MANY, out, 256) == 3 &&
+               is(answers[0], JT_USAGE, JT_NOT_HELD) && is(answers[2], JT_REFUSED, 0) &&
+               !nothing.full,
+           "no image for many contexts");
+    jt_context_load(BYTES("{}"), (struct jt_context *)&outcome, out, 256);
+    expect(jt_image_run_each(&kept, BYTES(many), many_lengths, 1, budget, &outcome, answers, MANY,
+                             out, 256) == 1 &&
+               !outcome.full,
+           "what the handle of the outcome held is freed");
     jt_image_free(&kept);
 }
 
@@ -351,8 +475,10 @@ int main(void) {
     alone(version);
     alone(empty_handles);
     alone(libraries);
+    alone(needs);
     alone(refusals);
     alone(runs);
+    alone(each);
     alone(owners);
     threads();
     threads_of_a_library();

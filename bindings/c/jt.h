@@ -9,10 +9,13 @@
  * - jt_context_load reads a context once.
  * - jt_image_run runs an image for a context and keeps the outcome, and jt_outcome_read writes the
  *   outcome again, into a buffer of the right length.
+ * - jt_image_run_each runs an image for many contexts in one call.
+ * - jt_run_start and jt_run_advance run it in slices: the host stops a run, or gives it a deadline.
  *
  * jt_compile, jt_check, jt_explain, jt_run and jt_render keep nothing.
  *
  * If templates are refused, jt_explain and jt_library_explain say more of it to their author.
+ * jt_library_needs lists the names of a context and the templates that a template needs.
  *
  * ANSWERS. Each call returns a struct jt_answer. A text, an image, a reason or an explanation goes
  * into the buffer `out`, which has `room` bytes. It is not terminated by a zero byte. If it is
@@ -28,6 +31,8 @@
  *     JT_SPENT    nothing                             the number, as enum jt_spent
  *     JT_MEMORY   nothing                             0
  *
+ * JT_GOING is a status of jt_run_advance alone, which writes nothing.
+ *
  * For JT_DONE of an explanation, `letter`, `code` and `line` state the refusal: 'P', 3 and the line
  * of the tag for P3. They are 0 if there is none, and `line` also if it is not known.
  *
@@ -35,12 +40,12 @@
  * anyone. No call ends the process, prints, or reads a file.
  *
  * OWNERSHIP. The caller owns all buffers. No call keeps a pointer to them. The structs jt_library,
- * jt_image, jt_context and jt_outcome are handles, whose memory the caller provides:
+ * jt_image, jt_context, jt_outcome and jt_run are handles, whose memory the caller provides:
  *
  * - A handle is zero at first: `struct jt_image image = {0};`. It holds nothing then.
  * - A call that fills a handle frees what the handle held before.
- * - jt_library_free, jt_image_free, jt_context_free and jt_outcome_free free what a handle holds.
- *   It then holds nothing, so a second free does nothing.
+ * - jt_library_free, jt_image_free, jt_context_free, jt_outcome_free and jt_run_free free what a
+ *   handle holds. It then holds nothing, so a second free does nothing.
  * - A handle may be moved in memory between calls, as by memcpy. The old place is not used again.
  * - Handles may be freed in any order: no handle depends on another one.
  *
@@ -50,7 +55,8 @@
  * - A struct jt_library or jt_image may go to another thread, through a lock or the start or end of
  *   a thread. jt_library_share and jt_image_share make a second handle of the same library or image
  *   for a second thread, without a copy.
- * - A struct jt_context or jt_outcome stays on the thread that filled it, also when it is freed.
+ * - A struct jt_context, jt_outcome or jt_run stays on the thread that filled it, also when it is
+ *   freed.
  *
  * MEMORY. A growth that the system refuses ends the call with JT_MEMORY, and all that the call took
  * is freed. jt_memory_limit refuses growths of the calling thread too, above a limit of its own.
@@ -62,7 +68,8 @@
  * - Buffers and handles of a call do not overlap, and nobody else changes them during the call.
  * - No length is above PTRDIFF_MAX.
  * - The fields of a handle are neither changed nor copied to a second handle in use.
- * - No call is made in a signal handler, or in a child that a process with threads has forked.
+ * - No call is made in a signal handler. A child that a process with threads has forked uses only
+ *   handles that no call was using at the fork.
  * - The stack has 256 KiB left. This is tested (bindings/c/stack.c) and not proved, by templates of
  *   98 levels, which are the deepest that are accepted, and by what they run. */
 #ifndef JT_H
@@ -89,7 +96,8 @@ enum jt_status {
     JT_USAGE = 2,   /* a mistake of the caller */
     JT_REFUSED = 3, /* templates, an image or a context that are not accepted */
     JT_SPENT = 4,   /* a number of the budget does not suffice */
-    JT_MEMORY = 6   /* memory was refused, by the system or by jt_memory_limit */
+    JT_MEMORY = 6,  /* memory was refused, by the system or by jt_memory_limit */
+    JT_GOING = 7    /* a run in slices has not ended */
 };
 
 /* The codes of JT_FAULT: 2 is F2. */
@@ -107,9 +115,10 @@ enum jt_fault {
 
 /* The codes of JT_USAGE. */
 enum jt_usage {
-    JT_LENGTHS = 1, /* the lengths of the templates do not add up to the length of `texts` */
-    JT_NO_TEXT = 2, /* a name or a source is not UTF-8 */
-    JT_NOT_HELD = 3 /* a handle does not hold what the call needs */
+    JT_LENGTHS = 1,  /* the lengths of templates or contexts do not fit the bytes */
+    JT_NO_TEXT = 2,  /* a name or a source is not UTF-8 */
+    JT_NOT_HELD = 3, /* a handle does not hold what the call needs */
+    JT_NOT_ENDED = 4 /* a run in slices has no outcome yet */
 };
 
 /* The codes of JT_SPENT. */
@@ -128,13 +137,14 @@ struct jt_lengths {
     uint64_t name, source;
 };
 
-/* How templates are read: 0 is off, any other number is on. */
+/* How templates are read: 0 is off, any other number is on. With `strict` an undefined value is a
+ * fault where it is printed, iterated over, joined by ~, or the input of a filter but default. */
 struct jt_options {
-    uint8_t trim_blocks, lstrip_blocks, keep_trailing_newline, autoescape;
+    uint8_t trim_blocks, lstrip_blocks, keep_trailing_newline, autoescape, strict;
 };
 
 /* The options of the program `jt`: struct jt_options options = JT_OPTIONS; */
-#define JT_OPTIONS {0, 0, 0, 1}
+#define JT_OPTIONS {0, 0, 0, 1, 0}
 
 /* What a run may use. docs/budgets.md helps to choose the numbers. */
 struct jt_budget {
@@ -147,6 +157,13 @@ struct jt_budget {
 
 /* The budget of the program `jt`: struct jt_budget budget = JT_BUDGET; */
 #define JT_BUDGET {1000000, 1048576, 64, 1048576, 32}
+
+/* What a run in slices has used of its budget. */
+struct jt_used {
+    uint64_t fuel;   /* the sum of the costs of the executed instructions */
+    uint64_t output; /* the number of written bytes, those of kept texts included */
+    uint32_t depth;  /* the most calls that were open at once */
+};
 
 /* Sources of templates by their names, or nothing. */
 struct jt_library {
@@ -168,6 +185,12 @@ struct jt_context {
 
 /* The outcome of a run, or nothing. */
 struct jt_outcome {
+    void *at;
+    bool full;
+};
+
+/* A run in slices, or nothing. */
+struct jt_run {
     void *at;
     bool full;
 };
@@ -208,6 +231,22 @@ struct jt_answer jt_library_explain(struct jt_library *library, const uint8_t *e
                                     size_t entry_length, struct jt_options options, uint8_t *out,
                                     size_t room);
 
+/* Writes what the image of the template `entry` depends on, a line for each, with its end:
+ *
+ *     name title          a name of the context that the image reads, or that its templates set
+ *     template page.html  a template that the image is made of: the entry, and all that it extends,
+ *                         includes and imports, also through others
+ *     missing ad.html     a template that an `include` with `ignore missing` names, which the
+ *                         library lacks
+ *
+ * The lines of each kind ascend by their bytes, and none occurs twice. (No name has a line end: the
+ * name of a template has no byte below 32.) As long as these templates have the same sources and
+ * the missing ones are missing, the entry compiles to the same image, whatever else the library
+ * holds. A refusal is that of jt_library_compile. */
+struct jt_answer jt_library_needs(struct jt_library *library, const uint8_t *entry,
+                                  size_t entry_length, struct jt_options options, uint8_t *out,
+                                  size_t room);
+
 /* Reads and verifies the bytes of an image into `image`; the bytes are copied. The image holds
  * nothing if the status is not JT_DONE. */
 struct jt_answer jt_image_load(const uint8_t *bytes, size_t bytes_length, struct jt_image *image,
@@ -231,6 +270,65 @@ struct jt_answer jt_image_run(struct jt_image *image, struct jt_context *context
 /* Writes an outcome: the answer is that of jt_image_run with this buffer. Nothing runs. */
 struct jt_answer jt_outcome_read(struct jt_outcome *outcome, uint8_t *out, size_t room);
 
+/* Runs the image for many contexts, one after another. Each is a JSON object in UTF-8, which is
+ * read for its run and then freed. `contexts` holds their bytes one after another, `lengths` the
+ * length of each.
+ *
+ * Each answer is that of jt_context_load if this refuses the context, else that of jt_image_run. A
+ * context whose length exceeds the bytes that are left has JT_USAGE with JT_LENGTHS. `out` holds
+ * the results one after another, each as long as the `length` of its answer.
+ *
+ * Returns the number of answers, which is less than `count` if `answers` or `out` is full. A result
+ * that does not fit the rest of `out` has the last answer, and `outcome` holds it for
+ * jt_outcome_read. (If memory is refused for that, the last answer is JT_MEMORY.) Else `outcome`
+ * holds nothing. The caller goes on with the first context that has no answer.
+ *
+ * No memory is kept from one context to the next, so jt_memory_limit before the call limits each
+ * run as if it were alone. To stop between contexts, pass a few at a time: a call of 16 to 64
+ * contexts costs little more than its runs. */
+size_t jt_image_run_each(struct jt_image *image, const uint8_t *contexts, size_t contexts_length,
+                         const uint64_t *lengths, size_t count, struct jt_budget budget,
+                         struct jt_outcome *outcome, struct jt_answer *answers,
+                         size_t answers_count, uint8_t *out, size_t room);
+
+/* RUNS IN SLICES. A run that the host may stop: it executes a number of instructions in each call.
+ *
+ *     status = jt_run_start(&image, &context, budget, &run);
+ *     while (status == JT_DONE || status == JT_GOING) {
+ *         status = jt_run_advance(&run, 20000);
+ *         if (status != JT_GOING || is_too_late()) {
+ *             break;
+ *         }
+ *     }
+ *     answer = jt_run_outcome(&run, out, room);
+ *     jt_run_free(&run);
+ *
+ * The outcome is that of jt_image_run, whatever the numbers of instructions are. A slice of 10,000
+ * instructions takes from a tenth of a millisecond to some milliseconds. One instruction may take
+ * longer, as a filter over a long list: `size` of the budget bounds it. A run that is not continued
+ * is stopped by jt_run_free, which gives all its memory back. Runs of one thread may take turns. */
+
+/* Starts the run of an image for a context under a budget, before its first instruction. The run
+ * shares the image and copies the values of the context that the image names, so `image` and
+ * `context` may be freed or filled again while it goes on. Returns JT_DONE, JT_USAGE if `image` or
+ * `context` holds nothing, or JT_MEMORY. The run holds nothing if the status is not JT_DONE. */
+uint32_t jt_run_start(struct jt_image *image, struct jt_context *context, struct jt_budget budget,
+                      struct jt_run *run);
+
+/* Executes `steps` instructions, or fewer if the run ends. Returns JT_GOING, JT_DONE if the run has
+ * ended, by a text or otherwise, JT_USAGE if `run` holds nothing, or JT_MEMORY if memory was
+ * refused. The run is then lost: it has no outcome, and each later call returns JT_MEMORY. */
+uint32_t jt_run_advance(struct jt_run *run, uint32_t steps);
+
+/* Writes the outcome of a run that has ended: the answer is one of jt_image_run. The run stays as
+ * it is, so a second call may have a larger buffer. A run that goes on has JT_USAGE with
+ * JT_NOT_ENDED, a lost run JT_MEMORY. */
+struct jt_answer jt_run_outcome(struct jt_run *run, uint8_t *out, size_t room);
+
+/* Returns what the run has used, while it goes on and after its end. An instruction that ends the
+ * run by a fault, or by a number of the budget, counts nothing. All is 0 if `run` holds nothing. */
+struct jt_used jt_run_used(struct jt_run *run);
+
 /* Makes `to` a second handle of what `from` holds. Returns JT_DONE, JT_USAGE if `from` holds
  * nothing, or JT_MEMORY. */
 uint32_t jt_library_share(struct jt_library *from, struct jt_library *to);
@@ -241,6 +339,7 @@ void jt_library_free(struct jt_library *library);
 void jt_image_free(struct jt_image *image);
 void jt_context_free(struct jt_context *context);
 void jt_outcome_free(struct jt_outcome *outcome);
+void jt_run_free(struct jt_run *run);
 
 /* Limits the memory of the calling thread. From now on, the calls of this thread together hold at
  * most `bytes` more than now. A growth beyond the limit is refused, and the call ends with

@@ -7,13 +7,11 @@
 #include <sys/resource.h>
 
 #include "expect.h"
-#include "jt.h"
 
 #define PAGE                                                                                     \
     "{% extends 'base' %}{% block body %}{% for x in xs %}{{ x ~ '!' }}{% endfor %}"              \
     "{% set y = range(1000) %}{{ y | length }}{% endblock %}"
 #define BASE "<p>{% block body %}{% endblock %}</p>"
-#define LENGTH(text) (sizeof(text) - 1)
 #define STEP 64
 #define MOST (192 * 1024)
 
@@ -30,11 +28,10 @@ static struct jt_library library, filled_library;
 static struct jt_image kept, filled_image;
 static struct jt_context values, filled_context;
 static struct jt_outcome outcome, filled_outcome;
+static struct jt_run filled_run;
 static const struct jt_lengths lengths[] = {{4, LENGTH(PAGE)}, {4, LENGTH(BASE)}};
 #define TEMPLATES bytes(texts), LENGTH(texts), lengths, 2
 static const struct jt_options options = JT_OPTIONS;
-
-static const uint8_t *bytes(const char *given) { return (const uint8_t *)given; }
 
 static struct jt_answer compile(uint8_t *to) {
     return jt_compile(TEMPLATES, bytes("page"), 4, options, to, sizeof out);
@@ -61,6 +58,10 @@ static struct jt_answer compile_of(uint8_t *to) {
     return jt_library_compile(&library, bytes("page"), 4, options, &filled_image, to, sizeof out);
 }
 
+static struct jt_answer needs_of(uint8_t *to) {
+    return jt_library_needs(&library, bytes("page"), 4, options, to, sizeof out);
+}
+
 static struct jt_answer share_library(uint8_t *to) {
     (void)to;
     return (struct jt_answer){.status = jt_library_share(&library, &filled_library)};
@@ -78,6 +79,24 @@ static struct jt_answer load_context(uint8_t *to) {
 
 static struct jt_answer run_image(uint8_t *to) {
     return jt_image_run(&kept, &values, budget, &filled_outcome, to, sizeof out);
+}
+
+/* Runs the image for two contexts, and returns the last answer. */
+static struct jt_answer run_each(uint8_t *to) {
+    const char two[] = "[]{\"xs\": [\"a\", \"b\", 3]}";
+    const uint64_t of_two[] = {2, LENGTH(two) - 2};
+    struct jt_answer answers[2];
+    const size_t count = jt_image_run_each(&kept, bytes(two), LENGTH(two), of_two, 2, budget,
+                                           &filled_outcome, answers, 2, to, sizeof out);
+    return answers[count - 1];
+}
+
+/* Runs the image in slices. */
+static struct jt_answer run_slices(uint8_t *to) {
+    struct jt_answer answer = {.status = jt_run_start(&kept, &values, budget, &filled_run)};
+    while (filled_run.full && jt_run_advance(&filled_run, 10) == JT_GOING) {
+    }
+    return filled_run.full ? jt_run_outcome(&filled_run, to, sizeof out) : answer;
 }
 
 static struct jt_answer read_outcome(uint8_t *to) {
@@ -99,12 +118,15 @@ static const struct {
     {"jt_render", render},
     {"jt_library_load", load_library},
     {"jt_library_compile", compile_of},
+    {"jt_library_needs", needs_of},
     {"jt_library_share", share_library},
     {"jt_image_load", load_image},
     {"jt_image_save", save},
     {"jt_image_share", share_image},
     {"jt_context_load", load_context},
     {"jt_image_run", run_image},
+    {"jt_image_run_each", run_each},
+    {"jt_run_advance", run_slices},
     {"jt_outcome_read", read_outcome},
 };
 
@@ -113,6 +135,7 @@ static void free_filled(void) {
     jt_image_free(&filled_image);
     jt_context_free(&filled_context);
     jt_outcome_free(&filled_outcome);
+    jt_run_free(&filled_run);
 }
 
 /* Makes a call under one limit. Returns whether it ends as it has to, and all is freed. */
@@ -208,7 +231,7 @@ int main(void) {
     const int64_t held_first = jt_memory_held();
     expect(held_first > 0, "handles hold memory");
     numbers();
-    for (size_t which = 0; which < sizeof calls / sizeof *calls; which++) {
+    for (size_t which = 0; which < COUNT_OF(calls); which++) {
         each_limit(which);
     }
     many_lists();

@@ -4,7 +4,7 @@
 #include <stdlib.h>
 #include <string.h>
 
-#include "jt.h"
+#include "expect.h"
 
 struct tried {
     bool ok;
@@ -43,7 +43,6 @@ void rattle_dealloc(unsigned char *p) {
     "{% extends 'base' %}{% block body %}{% for x in xs %}{{ x ~ '!' }}{% endfor %}{% endblock " \
     "%}"
 #define BASE "<p>{% block body %}{% endblock %}</p>"
-#define LENGTH(text) (sizeof(text) - 1)
 
 static const char texts[] = "page" PAGE "base" BASE;
 static const char context[] = "{\"xs\": [\"a\", [1, 2]]}";
@@ -57,6 +56,7 @@ static struct jt_library library, other_library;
 static struct jt_image kept, other;
 static struct jt_context values;
 static struct jt_outcome outcome;
+static struct jt_run run;
 
 enum {
     COMPILE,
@@ -68,9 +68,14 @@ enum {
     IMAGE_LOAD,
     CONTEXT_LOAD,
     LIBRARY_COMPILE,
+    LIBRARY_NEEDS,
     LIBRARY_SHARE,
     IMAGE_SAVE,
     IMAGE_RUN,
+    IMAGE_RUN_EACH,
+    RUN_START,
+    RUN_ADVANCE,
+    RUN_OUTCOME,
     OUTCOME_READ,
     IMAGE_SHARE,
     COUNT
@@ -79,8 +84,6 @@ enum {
 static const struct jt_lengths lengths[] = {{4, LENGTH(PAGE)}, {4, LENGTH(BASE)}};
 #define TEMPLATES bytes(texts), LENGTH(texts), lengths, 2
 
-static const uint8_t *bytes(const char *text) { return (const uint8_t *)text; }
-
 static void free_all(void) {
     jt_library_free(&library);
     jt_library_free(&other_library);
@@ -88,6 +91,7 @@ static void free_all(void) {
     jt_image_free(&other);
     jt_context_free(&values);
     jt_outcome_free(&outcome);
+    jt_run_free(&run);
 }
 
 /* Fills the handles that a call needs. */
@@ -98,6 +102,12 @@ static void prepare(int which) {
     if (which >= IMAGE_SAVE) {
         jt_image_load(image, image_length, &kept, out, sizeof out);
         jt_context_load(bytes(context), LENGTH(context), &values, out, sizeof out);
+    }
+    if (which == RUN_ADVANCE || which == RUN_OUTCOME) {
+        jt_run_start(&kept, &values, budget, &run);
+    }
+    if (which == RUN_OUTCOME) {
+        jt_run_advance(&run, 1000);
     }
     if (which == OUTCOME_READ) {
         jt_image_run(&kept, &values, budget, &outcome, out, sizeof out);
@@ -128,6 +138,8 @@ static struct jt_answer call(int which, uint8_t *to) {
         return jt_context_load(bytes(context), LENGTH(context), &values, to, room);
     case LIBRARY_COMPILE:
         return jt_library_compile(&library, bytes("page"), 4, options, &other, to, room);
+    case LIBRARY_NEEDS:
+        return jt_library_needs(&library, bytes("page"), 4, options, to, room);
     case LIBRARY_SHARE:
         answer.status = jt_library_share(&library, &other_library);
         return answer;
@@ -135,16 +147,24 @@ static struct jt_answer call(int which, uint8_t *to) {
         return jt_image_save(&kept, to, room);
     case IMAGE_RUN:
         return jt_image_run(&kept, &values, budget, &outcome, to, room);
+    case IMAGE_RUN_EACH:
+        jt_image_run_each(&kept, bytes(context), LENGTH(context),
+                          &(uint64_t){LENGTH(context)}, 1, budget, &outcome, &answer, 1, to, room);
+        return answer;
+    case RUN_START:
+        answer.status = jt_run_start(&kept, &values, budget, &run);
+        return answer;
+    case RUN_ADVANCE:
+        answer.status = jt_run_advance(&run, 1000);
+        return answer;
+    case RUN_OUTCOME:
+        return jt_run_outcome(&run, to, room);
     case OUTCOME_READ:
         return jt_outcome_read(&outcome, to, room);
     default:
         answer.status = jt_image_share(&kept, &other);
         return answer;
     }
-}
-
-static bool same(struct jt_answer a, struct jt_answer b) {
-    return a.status == b.status && a.code == b.code && a.line == b.line && a.length == b.length;
 }
 
 /* Returns whether the handle that a call fills is as its status says. */
@@ -158,12 +178,21 @@ static bool is_filled(int which, uint32_t status) {
         return values.full == (status == JT_DONE);
     case LIBRARY_COMPILE:
         return library.full && other.full == (status == JT_DONE);
+    case LIBRARY_NEEDS:
+        return library.full;
     case LIBRARY_SHARE:
         return library.full && other_library.full == (status == JT_DONE);
     case IMAGE_SAVE:
         return kept.full;
     case IMAGE_RUN:
         return kept.full && values.full && (outcome.full || status == JT_MEMORY);
+    case IMAGE_RUN_EACH:
+        return kept.full && !outcome.full;
+    case RUN_START:
+        return kept.full && values.full && run.full == (status == JT_DONE);
+    case RUN_ADVANCE:
+    case RUN_OUTCOME:
+        return kept.full && values.full && run.full;
     case OUTCOME_READ:
         return outcome.full;
     case IMAGE_SHARE:
@@ -175,9 +204,9 @@ static bool is_filled(int which, uint32_t status) {
 
 int main(void) {
     static uint8_t wanted[65536];
-    int passed = 0, failed = 0;
     for (int which = 0; which < COUNT; which++) {
         const bool faults = which == RUN || which == RENDER || which == IMAGE_RUN ||
+                            which == IMAGE_RUN_EACH || which == RUN_OUTCOME ||
                             which == OUTCOME_READ;
         refused = -1;
         prepare(which);
@@ -199,11 +228,11 @@ int main(void) {
             last = growths;
             well = is_filled(which, answer.status) &&
                    (answer.status == JT_MEMORY ||
-                    (same(answer, usual) && memcmp(out, wanted, usual.length) == 0)) &&
+                    (equal_answers(answer, usual) && memcmp(out, wanted, usual.length) == 0)) &&
                    (at >= last || which < LIBRARY_LOAD || answer.status == JT_MEMORY);
-            /* the handles are still good for the call */
-            if (well && which >= LIBRARY_COMPILE) {
-                well = same(call(which, out), usual);
+            /* the handles are still good for the call, but a lost run stays lost */
+            if (well && which >= LIBRARY_COMPILE && which != RUN_ADVANCE) {
+                well = equal_answers(call(which, out), usual);
             }
             free_all();
             well = well && held == 0;
@@ -214,6 +243,5 @@ int main(void) {
             printf("call %d, growth %ld: status %u, %ld held\n", which, at, usual.status, held);
         }
     }
-    printf("%d passed, %d failed\n", passed, failed);
-    return failed != 0;
+    return tally();
 }

@@ -167,12 +167,23 @@ static bool is_wanted(struct jt_answer answer) {
             (answer.length == strlen(wanted) && memcmp(out, wanted, answer.length) == 0));
 }
 
-/* Renders the input and explains it, then compiles it, keeps it and runs it. Returns NULL, or what
- * is wrong. */
+/* Lists what the input needs. Returns whether that ends as a compilation. */
+static bool needs(const uint8_t *entry) {
+    struct jt_library library = {0};
+    const struct jt_answer loaded = jt_library_load(texts, texts_length, lengths, lengths_count,
+                                                    &library, out, sizeof out);
+    const struct jt_answer answer =
+        jt_library_needs(&library, entry, 1, options, out, sizeof out);
+    jt_library_free(&library);
+    return loaded.status == JT_DONE && (answer.status == JT_DONE || answer.status == wanted_status);
+}
+
+/* Renders the input, explains it and lists its needs, then compiles it, keeps it and runs it.
+ * Returns NULL, or what is wrong. */
 static void *run(void *unused) {
     (void)unused;
     static char rendered[] = "render", explained[] = "explain", compiled[] = "compile";
-    static char kept[] = "keep", ran[] = "run", held[] = "free";
+    static char kept[] = "keep", ran[] = "run", held[] = "free", listed[] = "needs";
     const uint8_t *entry = (const uint8_t *)"t", *json = (const uint8_t *)context;
     const size_t length = strlen(context);
     struct jt_image page = {0};
@@ -185,6 +196,9 @@ static void *run(void *unused) {
     if (jt_explain(texts, texts_length, lengths, lengths_count, entry, 1, options, out, sizeof out)
             .status != JT_DONE) {
         return explained;
+    }
+    if (!needs(entry)) {
+        return listed;
     }
     if (wanted_status != JT_DONE) {
         return NULL;

@@ -3,9 +3,6 @@
 #include <string.h>
 
 #include "expect.h"
-#include "jt.h"
-
-static const uint8_t *bytes(const char *text) { return (const uint8_t *)text; }
 
 static const struct jt_options usual = {.autoescape = 1};
 static const struct jt_budget budget = {
@@ -64,10 +61,16 @@ static void statuses(void) {
         {JT_FAULT_RANGE, "{{ range(1, 2, 0) }}"},
         {JT_FAULT_BAD_ARGUMENT, "{{ 'a'|replace('', 'b') }}"},
     };
-    for (size_t i = 0; i < sizeof faults / sizeof *faults; i++) {
+    for (size_t i = 0; i < COUNT_OF(faults); i++) {
         expect(tells(rendered(faults[i].source, "{}", 64), JT_FAULT, faults[i].code, 1, "t"),
                faults[i].source);
     }
+    static const struct jt_options strict = {.autoescape = 1, .strict = 1};
+    expect(tells(jt_render(bytes("ta{{ nope }}"), 12, &(struct jt_lengths){1, 11}, 1, bytes("t"), 1,
+                           strict, bytes("{}"), 2, budget, out, 64),
+                 JT_FAULT, JT_FAULT_UNDEFINED, 1, "t"),
+           "an undefined value is printed in a strict template");
+    expect(tells(rendered("a{{ nope }}", "{}", 64), JT_DONE, 0, 0, "a"), "and in another one");
     expect(tells(rendered("", "[]", 64), JT_REFUSED, 0, 0, "X2 NotObject"), "X2");
     expect(tells(rendered("", "", 64), JT_REFUSED, 0, 0, "X1 NotJson"), "X1 of no bytes");
     expect(tells(rendered("", "{\"a\": \"\xff\"}", 64), JT_REFUSED, 0, 0, "X1 NotJson"),
@@ -98,7 +101,7 @@ static void constants(void) {
                most.size == 1048576 && most.nesting == 32,
            "JT_BUDGET");
     expect(!plain.trim_blocks && !plain.lstrip_blocks && !plain.keep_trailing_newline &&
-               plain.autoescape == 1,
+               plain.autoescape == 1 && !plain.strict,
            "JT_OPTIONS");
     char version[32];
     sprintf(version, "%d.%d.%d", JT_VERSION_MAJOR, JT_VERSION_MINOR, JT_VERSION_PATCH);

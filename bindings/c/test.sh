@@ -7,27 +7,9 @@ library=$(realpath "${1:?usage: c/test.sh LIBRARY PROGRAM}") || exit 2
 program=$(realpath "${2:?usage: c/test.sh LIBRARY PROGRAM}") || exit 2
 here=$(realpath "$(dirname "$0")")
 cc=${CC:-cc}
-passed=0
-failed=0
-room=$(mktemp -d)
-trap 'rm -rf "$room"' EXIT
+# shellcheck source=bindings/trials.sh
+. "$here/../trials.sh"
 unset MAKEFLAGS MFLAGS LD_LIBRARY_PATH
-
-# Runs one trial: its name, and a command. Shows what the command prints if it fails.
-try() {
-    local name=$1
-    shift
-    if "$@" > "$room/said" 2>&1; then
-        passed=$((passed + 1))
-    else
-        failed=$((failed + 1))
-        echo "$name: failed"
-        tail -n 20 "$room/said"
-    fi
-}
-
-# Checks that a tool is there, and prints what is left out if it is not.
-have() { command -v "$1" > "$room/said" || { echo "left out: $1 is not installed" && false; }; }
 
 # Runs make over the tree, with all that it builds in the temporary folder.
 tree() {
@@ -203,13 +185,14 @@ archive=$room/out/jt-$version-x86_64-linux.tar.gz
 
 # The calls.
 try 'the header in C++' c++ -x c++ -Wall -Wextra -Werror -fsyntax-only "$here/jt.h"
-for name in test handles_test limit stack; do
+for name in test handles_test slices_test limit stack; do
     sources=("$here/$name.c" "$here/heap.c")
     try "$name.c" "$cc" "${strict[@]}" -pthread -o "$room/$name" "${sources[@]}" "$library"
 done
 try 'memory.c' "$cc" "${strict[@]}" -o "$room/memory" "$here/memory.c" "$library"
 try 'the calls that keep nothing' "$room/test"
 try 'the calls over handles' "$room/handles_test"
+try 'runs in slices' "$room/slices_test"
 try 'a limit of memory' "$room/limit"
 try 'a refused growth' "$room/memory"
 try 'a stack of 256 KiB' "$room/stack" 256
@@ -262,11 +245,10 @@ fi
 # Memory and threads.
 if have valgrind; then
     export LD_LIBRARY_PATH=$room/packed/usr/local/lib
-    for name in handles_test memory shared; do
+    for name in handles_test slices_test memory shared; do
         try "$name under valgrind" valgrind -q --error-exitcode=9 --leak-check=full "$room/$name"
     done
     try 'threads under helgrind' valgrind -q --tool=helgrind --error-exitcode=9 "$room/handles_test"
 fi
 
-echo "$passed passed, $failed failed"
-[ "$failed" -eq 0 ]
+tally

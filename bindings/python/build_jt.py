@@ -34,7 +34,7 @@ def build_wheel(wheel_directory, config_settings=None, metadata_directory=None):
     """Writes the wheel to a folder and returns its name."""
     with tempfile.TemporaryDirectory() as room:
         library = _library(room).read_bytes()
-    files = {f"jt/{file.name}": file.read_bytes() for file in _modules()}
+    files = {f"jt/{_name(file)}": file.read_bytes() for file in _modules()}
     return _write_wheel(wheel_directory, {**files, "jt/libjt.so": library}, library)
 
 
@@ -48,9 +48,10 @@ def build_sdist(sdist_directory, config_settings=None):
     """Writes the source distribution to a folder and returns its name."""
     project = _project()
     name = f"{project['name']}-{project['version']}"
-    files = {f"src/jt/{file.name}": file for file in _modules()}
-    own = ("README.md", "build_jt.py", "example.py", "expected", "pyproject.toml", "test_jt.py")
-    files.update({path: HERE / path for path in own})
+    files = {f"src/jt/{_name(file)}": file for file in _modules()}
+    own = ("README.md", "build_jt.py", "example.py", "expected", "pyproject.toml")
+    tests = ("test_jt.py", "test_runs.py", "test_each.py", "test_forks.py")
+    files.update({path: HERE / path for path in own + tests})
     for other in ("build.sh", "c/heap.c", "c/jt.h", "c/jt.map"):
         files[other] = BINDINGS / other
     files.update({licence: ROOT / licence for licence in project["license-files"]})
@@ -75,8 +76,13 @@ def _tar(folder, data):
 
 
 def _modules():
-    """Returns the files of the package."""
-    return sorted([*PACKAGE.glob("*.py"), PACKAGE / "py.typed"])
+    """Returns the files of the package and of the packages in it."""
+    return sorted([*PACKAGE.rglob("*.py"), *PACKAGE.rglob("*.html"), PACKAGE / "py.typed"])
+
+
+def _name(file):
+    """Returns the name of a file in the package."""
+    return file.relative_to(PACKAGE).as_posix()
 
 
 def _static_library():
@@ -131,6 +137,8 @@ def _metadata(project):
     lines += [f"License-File: {name}" for name in project["license-files"]]
     lines += [f"Classifier: {name}" for name in project["classifiers"]]
     lines.append(f"Requires-Python: {project['requires-python']}")
+    # (The server and the page need nothing else; the name is there for who asks for them.)
+    lines.append("Provides-Extra: editor")
     lines += ["Description-Content-Type: text/markdown", ""]
     return "\n".join([*lines, (HERE / project["readme"]).read_text(encoding="utf-8")])
 

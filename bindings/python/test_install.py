@@ -60,7 +60,8 @@ class Installed(unittest.TestCase):
         self.assertEqual(metadata, build_jt._metadata(build_jt._project()))
         self.assertIn(f"\nVersion: {wheel.name.split('-')[1]}\n", metadata)
         self.assertIn("\nLicense-Expression: MIT OR Apache-2.0\n", metadata)
-        for name in ("__init__.py", "py.typed", "libjt.so"):
+        modules = ("lsp/__init__.py", "playground/__init__.py", "playground/page.html")
+        for name in ("__init__.py", "__main__.py", "py.typed", "libjt.so", *modules):
             self.assertIn(f"jt/{name}", names)
         for name in ("licenses/LICENSE-MIT", "licenses/LICENSE-APACHE", "RECORD"):
             self.assertTrue(any(it.endswith(f".dist-info/{name}") for it in names), name)
@@ -81,6 +82,7 @@ class Installed(unittest.TestCase):
             self.skipTest("no tomllib before Python 3.11")
         table = tomllib.loads((HERE / "pyproject.toml").read_text())["project"]
         self.assertEqual([it["name"] for it in table.pop("authors")], ["the authors of jt"])
+        self.assertEqual(table.pop("optional-dependencies"), {"editor": []})
         self.assertEqual(table, project)
 
     def test_the_source_distribution(self):

@@ -25,6 +25,7 @@ from jt import (
     Fault,
     Image,
     JtError,
+    Needs,
     NoMemory,
     Options,
     Refused,
@@ -356,6 +357,10 @@ class Calls(Holding):
             ("  {% if true %}a{% endif %}", Options(lstrip_blocks=True), "a"),
         ):
             self.assertEqual(text(source, options=options), wanted)
+        self.assertEqual(text("{{ nope }}x"), "x")
+        with self.assertRaises(Fault) as caught:
+            text("x\n{{ nope }}", options=Options(strict=True))
+        self.assertEqual((caught.exception.number, caught.exception.line), (2, 2))
         for name in Options.__dataclass_fields__:
             for value in (1, 0, None, "yes"):
                 with self.assertRaisesRegex(TypeError, name):
@@ -446,6 +451,97 @@ class Calls(Holding):
         templates = Templates(sources)
         sources["new"] = ""
         self.assertEqual(dict(templates.sources), {"t": "b"})
+
+
+class Needed(Holding):
+    """What templates need."""
+
+    site = {
+        "home": "{% extends 'base' %}{% from 'forms' import field %}{% block body %}{{ title }}"
+        "{% include 'ad' ignore missing %}{{ field(1) }}{% include 'menu' %}{% endblock %}",
+        "base": "{{ site.name }}{% block body %}{% endblock %}",
+        "menu": "{% for link in links %}{{ link }}{% endfor %}",
+        "forms": "{% macro field(x) %}{{ x }}.{% endmacro %}",
+        "other": "{{ nobody }}",
+    }
+
+    def test_names_templates_and_missing_ones(self):
+        templates = Templates(self.site)
+        needs = templates.needs("home")
+        self.assertEqual(needs, templates["home"].needs())
+        self.assertEqual(needs.templates, ("base", "forms", "home", "menu"))
+        self.assertEqual(needs.missing, ("ad",))
+        self.assertLessEqual({"links", "site", "title"}, set(needs.names))
+        self.assertNotIn("nobody", needs.names)
+        self.assertEqual(templates.needs("other"), Needs(("nobody",), ("other",), ()))
+        self.assertEqual(Template("text").needs(), Needs((), ("<template>",), ()))
+        self.assertEqual(pickle.loads(pickle.dumps(needs)), needs)
+        self.assertEqual(len({needs, templates.needs("home"), templates.needs("menu")}), 2)
+
+    def test_what_is_needed_decides_the_image(self):
+        image = Templates(self.site)["home"].compile().data
+        for name in self.site:
+            changed = {**self.site, name: self.site[name].replace("}}", "}}x", 1)}
+            is_needed = name in Templates(self.site).needs("home").templates
+            self.assertEqual(Templates(changed)["home"].compile().data != image, is_needed, name)
+        changed = {**self.site, "ad": "", "more": ""}
+        self.assertNotEqual(Templates(changed)["home"].compile().data, image)
+        self.assertEqual(Templates(changed).needs("home").missing, ())
+
+    def test_names_of_any_kind(self):
+        odd = ("a b", "name x", " ", "é", "n" * 255, "\x7f", "\x85", "\u2028", "template")
+        tags = "".join(f'{{% include "{name}" ignore missing %}}' for name in odd)
+        wanted = tuple(sorted(odd))
+        self.assertEqual(Templates({"t": tags}).needs("t"), Needs((), ("t",), wanted))
+        needs = Templates({**{name: "" for name in odd}, "t": tags}).needs("t")
+        self.assertEqual(needs, Needs((), tuple(sorted([*odd, "t"])), ()))
+        # a name with a line end would be two lines
+        for name, sources in (("a\nname b", {"a\nname b": ""}), ("t", {"t": "{% include 'a\nb' %}"})):
+            with self.assertRaisesRegex(Refused, "C2 BadName"):
+                Templates(sources).needs(name)
+
+    def test_needs_longer_than_the_first_buffer(self):
+        names = sorted(f"name_{at}" for at in range(900))
+        source = "".join(f"{{{{ {name} }}}}" for name in names)
+        self.assertEqual(Template("t", {"t": source}).needs(), Needs(tuple(names), ("t",), ()))
+
+    def test_needs_of_a_refused_template(self):
+        templates = Templates({"t": "\n{{ x|uper }}", "u": "{% include 'none' %}"})
+        for name in ("t", "u", "none"):
+            with self.assertRaises(Refused) as caught:
+                templates.needs(name)
+            with self.assertRaises(Refused) as other:
+                templates.template(name).compile()
+            self.assertEqual(vars(caught.exception), vars(other.exception))
+            self.assertIsNotNone(caught.exception.explanation)
+        with self.assertRaises(ValueError):
+            Template("\ud800", {}).needs()
+
+    def test_needs_for_lack_of_memory(self):
+        templates, refused = Templates(self.site), 0
+        wanted = templates.needs("home")
+        for memory in range(0, 65536, 256):
+            before = library.jt_memory_limit(memory)
+            try:
+                self.assertEqual(templates.needs("home"), wanted)
+            except NoMemory:
+                refused += 1
+            finally:
+                library.jt_memory_limit(before)
+        self.assertGreater(refused, 10)
+        self.assertLess(refused, 256)
+
+    def test_threads(self):
+        templates = Templates(self.site)
+        wanted = templates.needs("home")
+
+        def work():
+            for _ in range(20):
+                self.assertEqual(templates.needs("home"), wanted)
+
+        with Counted() as counted:
+            in_threads(4, work)
+            self.assertEqual((counted.of("jt_library_needs"), counted.wrong), (80, []))
 
 
 class Contexts(Holding):
@@ -982,8 +1078,14 @@ class Lives(Holding):
             self.skipTest("signals reach the main thread alone")
         image, context = Template("t", {"t": "{{ n }}"}).compile(), Context({"n": 7})
         found = []
-        before = signal.signal(signal.SIGALRM, lambda *_: found.append(image.run(context)))
-        signal.setitimer(signal.ITIMER_REAL, 0.001, 0.001)
+
+        def render(*_):
+            found.append(image.run(context))
+            # (A signal that comes again by itself could come within this handler, if that is slow.)
+            signal.setitimer(signal.ITIMER_REAL, 0.001)
+
+        before = signal.signal(signal.SIGALRM, render)
+        signal.setitimer(signal.ITIMER_REAL, 0.001)
         try:
             while len(found) < 50:
                 self.assertEqual(image.run(context), "7")
@@ -1094,6 +1196,8 @@ class Examples(Holding):
         count = 0
         for folder, entry, options, context, wanted in self.cases():
             chosen = {name: getattr(options, name) for name in Options.__dataclass_fields__}
+            # (Jinja has a class for strict templates.)
+            chosen["undefined"] = jinja2.StrictUndefined if chosen.pop("strict") else jinja2.Undefined
             loader = jinja2.FileSystemLoader(folder)
             page = jinja2.Environment(loader=loader, **chosen).get_template(entry)
             self.assertEqual(page.render(context), wanted)

@@ -1,7 +1,7 @@
 # Completes the commands, options and files of jt in bash.
 _jt() {
     local current=${COMP_WORDS[COMP_CWORD]} previous=${COMP_WORDS[COMP_CWORD - 1]}
-    local templates='--trim-blocks --lstrip-blocks --keep-trailing-newline --no-autoescape'
+    local templates='--trim-blocks --lstrip-blocks --keep-trailing-newline --no-autoescape --strict'
     local budget='--fuel --depth --output --size --nesting' options=''
     local command=${COMP_WORDS[1]} position=0 directory='' i
     COMPREPLY=()

@@ -43,6 +43,7 @@ complete -c jt -n $templates -l trim-blocks -d 'Drop a newline directly after a 
 complete -c jt -n $templates -l lstrip-blocks -d 'Drop the spaces of a line before a block tag'
 complete -c jt -n $templates -l keep-trailing-newline -d 'Keep the last newline of each template'
 complete -c jt -n $templates -l no-autoescape -d 'Escape nothing unless a template says so'
+complete -c jt -n $templates -l strict -d 'Fail where an undefined value is used'
 
 set -l budget '__fish_seen_subcommand_from explain run render turns'
 complete -c jt -n $budget -x -l fuel -d 'What the instructions may cost'

@@ -61,6 +61,10 @@ impl Context {
     {
         Context::from_json(crate::serialize::to_json(value)?)
     }
+    /// Uses the handle of the context.
+    pub(crate) fn with<T>(&self, call: impl FnOnce(&mut ContextHandle) -> T) -> T {
+        call(&mut self.0.borrow_mut())
+    }
 }
 impl fmt::Debug for Context {
     fn fmt(&self, f: &mut fmt::Formatter<'_>) -> fmt::Result {
@@ -136,7 +140,11 @@ impl Image {
     /// # Ok::<(), jt::Error>(())
     /// ```
     pub fn try_clone(&self) -> Result<Image, Error> {
-        self.lock().share().map(Image::of)
+        self.share().map(Image::of)
+    }
+    /// Returns a handle of the image for one run.
+    pub(crate) fn share(&self) -> Result<ImageHandle, Error> {
+        self.lock().share()
     }
     fn lock(&self) -> MutexGuard<'_, ImageHandle> {
         self.handle.lock().unwrap_or_else(PoisonError::into_inner)
@@ -160,7 +168,7 @@ impl Image {
     /// # Ok::<(), jt::Error>(())
     /// ```
     pub fn run(&self, context: &Context, budget: Budget) -> Result<Outcome, Error> {
-        let mut image = self.lock().share()?;
+        let mut image = self.share()?;
         let mut context = context.0.borrow_mut();
         let _limit = (budget.memory != u64::MAX).then(|| MemoryLimit::new(budget.memory));
         let (mut outcome, mut has_run) = (OutcomeHandle::empty(), false);

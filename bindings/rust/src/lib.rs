@@ -29,11 +29,14 @@
 #![warn(missing_docs)]
 #![deny(unsafe_code)]
 
+mod each;
 mod error;
 mod image;
+mod needs;
 mod outcome;
 #[allow(unsafe_code)]
 mod raw;
+mod run;
 #[cfg(feature = "serde")]
 mod serialize;
 mod templates;
@@ -51,7 +54,10 @@ pub fn version() -> String {
     String::from_utf8_lossy(&told).into_owned()
 }
 
+pub use each::RunEach;
 pub use error::{Error, Refusal};
 pub use image::{Context, Image};
+pub use needs::Needs;
 pub use outcome::{Budget, Fault, Outcome, Place, Spent};
+pub use run::{Progress, Run, Used};
 pub use templates::{Options, Template, Templates};

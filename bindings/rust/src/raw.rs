@@ -1,8 +1,9 @@
 //! The calls of the library, as bindings/c/jt.h declares them, and the handles that they fill. All
 //! unsafe code is here.
 
-use crate::{Budget, Error, Options};
+use crate::{Budget, Error, Options, Used};
 use std::marker::PhantomData;
+use std::mem;
 
 extern "C" {
     fn jt_memory_limit(bytes: u64) -> u64;
@@ -55,6 +56,13 @@ impl MemoryLimit {
         // SAFETY: the call only sets numbers of this thread.
         MemoryLimit { before: unsafe { jt_memory_limit(bytes) }, thread: PhantomData }
     }
+    /// Ends the limit, and returns what is left of it.
+    pub(crate) fn end(self) -> u64 {
+        // SAFETY: as above.
+        let left = unsafe { jt_memory_limit(self.before) };
+        mem::forget(self);
+        left
+    }
 }
 impl Drop for MemoryLimit {
     fn drop(&mut self) {
@@ -103,6 +111,53 @@ handle! {
 handle! {
     /// The outcome of a run, or nothing. Its pointer keeps it on its thread.
     OutcomeHandle, jt_outcome_free
+}
+handle! {
+    /// A run in slices, or nothing. Its pointer keeps it on its thread.
+    RunHandle, jt_run_free
+}
+impl RunHandle {
+    /// Returns a run before its first instruction.
+    pub(crate) fn start(
+        image: &mut ImageHandle,
+        context: &mut ContextHandle,
+        budget: Numbers,
+    ) -> Result<RunHandle, Error> {
+        extern "C" {
+            fn jt_run_start(
+                image: &mut ImageHandle,
+                context: &mut ContextHandle,
+                budget: Numbers,
+                run: &mut RunHandle,
+            ) -> u32;
+        }
+        let mut run = RunHandle::empty();
+        // SAFETY: the handles differ, and no other call uses them.
+        match unsafe { jt_run_start(image, context, budget, &mut run) } {
+            0 => Ok(run),
+            _ => Err(Error::NoMemory),
+        }
+    }
+    /// Executes a number of instructions, and returns whether the run goes on.
+    pub(crate) fn advance(&mut self, steps: u32) -> Result<bool, Error> {
+        extern "C" {
+            fn jt_run_advance(run: &mut RunHandle, steps: u32) -> u32;
+        }
+        // SAFETY: the handle holds a run of this thread, and no other call uses it.
+        match unsafe { jt_run_advance(self, steps) } {
+            0 => Ok(false),
+            7 => Ok(true),
+            _ => Err(Error::NoMemory),
+        }
+    }
+    /// Returns what the run has used.
+    pub(crate) fn used(&mut self) -> Used {
+        extern "C" {
+            fn jt_run_used(run: &mut RunHandle) -> Used;
+        }
+        // SAFETY: as above; the call only reads the run.
+        unsafe { jt_run_used(self) }
+    }
 }
 
 /// Declares that a handle may go to another thread, and how a second one of the same value is made.
@@ -164,6 +219,7 @@ calls! {
         (library: &mut LibraryHandle), [entry: u8], options: Options, image: &mut ImageHandle
     );
     fn jt_library_explain((library: &mut LibraryHandle), [entry: u8], options: Options);
+    fn jt_library_needs((library: &mut LibraryHandle), [entry: u8], options: Options);
     fn jt_image_load((), [bytes: u8], image: &mut ImageHandle);
     fn jt_image_save((image: &mut ImageHandle), [],);
     fn jt_context_load((), [bytes: u8], context: &mut ContextHandle);
@@ -172,6 +228,7 @@ calls! {
         budget: Numbers, outcome: &mut OutcomeHandle
     );
     fn jt_outcome_read((outcome: &mut OutcomeHandle), [],);
+    fn jt_run_outcome((run: &mut RunHandle), [],);
 }
 
 /// Makes a call with a buffer of `room` bytes, and again if that is too short. Returns the answer

@@ -1,16 +1,17 @@
 //! Sources, and their compilation to images.
 
 use crate::raw::{
-    called, jt_library_compile, jt_library_explain, jt_library_load, ImageHandle, LibraryHandle,
+    called, jt_library_compile, jt_library_explain, jt_library_load, jt_library_needs, ImageHandle,
+    LibraryHandle,
 };
-use crate::{Budget, Context, Error, Image, Outcome};
+use crate::{Budget, Context, Error, Image, Needs, Outcome};
 use std::path::Path;
 use std::sync::{Mutex, PoisonError};
 use std::{fmt, fs, io};
 
 /// The room for a reason.
 const ROOM: usize = 256;
-/// The room for an explanation that needs no second buffer.
+/// The room for an explanation, and for needs, that takes no second buffer.
 const LINES_ROOM: usize = 1024;
 
 /// How templates are read. By default escaping is on and everything else is off.
@@ -25,11 +26,14 @@ pub struct Options {
     pub keep_trailing_newline: bool,
     /// Escapes printed values for HTML.
     pub autoescape: bool,
+    /// Makes an undefined value a fault where it is printed, iterated over, joined by `~`, or the
+    /// input of a filter other than `default`.
+    pub strict: bool,
 }
 impl Default for Options {
     fn default() -> Options {
-        let [trim_blocks, lstrip_blocks, keep_trailing_newline] = [false; 3];
-        Options { trim_blocks, lstrip_blocks, keep_trailing_newline, autoescape: true }
+        let [trim_blocks, lstrip_blocks, keep_trailing_newline, strict] = [false; 4];
+        Options { trim_blocks, lstrip_blocks, keep_trailing_newline, autoescape: true, strict }
     }
 }
 
@@ -119,8 +123,36 @@ impl Templates {
         });
         match compiled {
             Ok(_) => Ok(Image::of(image)),
-            Err(Error::NoMemory) => Err(Error::NoMemory),
-            Err(refusal) => Err(explained(&mut library, entry, options, refusal)),
+            Err(error) => Err(explained(&mut library, entry, options, error)),
+        }
+    }
+    /// Returns what the image of a template depends on. The template is compiled for that.
+    ///
+    /// # Errors
+    ///
+    /// `Refused` if the templates are refused, `NoMemory` if a growth is.
+    ///
+    /// ```
+    /// use jt::{Options, Templates};
+    ///
+    /// let templates = Templates::new(&[
+    ///     ("page", "{{ title }}{% include 'foot' %}{% include 'ad' ignore missing %}"),
+    ///     ("foot", "{{ year }}"),
+    ///     ("other", "{{ x }}"),
+    /// ]);
+    /// let needs = templates.needs("page", Options::default())?;
+    /// assert_eq!(needs.names, ["title", "year"]);
+    /// assert_eq!(needs.templates, ["foot", "page"]);
+    /// assert_eq!(needs.missing, ["ad"]);
+    /// # Ok::<(), jt::Error>(())
+    /// ```
+    pub fn needs(&self, entry: &str, options: Options) -> Result<Needs, Error> {
+        let mut library = self.library()?;
+        match called(LINES_ROOM, |out| {
+            jt_library_needs(&mut library, entry.as_bytes(), options, out)
+        }) {
+            Ok((_, lines)) => Ok(Needs::read(&String::from_utf8_lossy(&lines))),
+            Err(error) => Err(explained(&mut library, entry, options, error)),
         }
     }
     /// Returns a handle of the library of the sources, which are read if that is the first one.
@@ -136,6 +168,9 @@ impl Templates {
 }
 /// Adds to the refusal of a template what its author has to know. Without memory nothing is added.
 fn explained(library: &mut LibraryHandle, entry: &str, options: Options, refusal: Error) -> Error {
+    if refusal == Error::NoMemory {
+        return refusal;
+    }
     match called(LINES_ROOM, |out| jt_library_explain(library, entry.as_bytes(), options, out)) {
         Ok((answer, lines)) => {
             refusal.explained(String::from_utf8_lossy(&lines).into_owned(), answer.line)
@@ -178,6 +213,14 @@ impl Template {
     /// `Refused` if the templates are refused, `NoMemory` if a growth is.
     pub fn compile(&self) -> Result<Image, Error> {
         self.templates.compile(&self.entry, self.options)
+    }
+    /// Returns what the image of the template depends on. The template is compiled for that.
+    ///
+    /// # Errors
+    ///
+    /// `Refused` if the templates are refused, `NoMemory` if a growth is.
+    pub fn needs(&self) -> Result<Needs, Error> {
+        self.templates.needs(&self.entry, self.options)
     }
     /// Compiles the template and runs it once.
     ///

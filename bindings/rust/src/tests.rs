@@ -84,17 +84,19 @@ fn make_under_each_limit<T>(call: impl Fn() -> Result<T, Error>) {
 fn each_call_may_be_refused_and_nothing_is_kept() {
     let source = "{% include 'u' %}{% for i in xs %}{{ i }}{% endfor %}";
     let long = "u".repeat(5000);
-    let compiled = || {
+    let templates_of_two = || {
         let mut templates = Templates::new(&[("t", source)]);
         templates.add("u", &long);
-        templates.clone().compile("t", Options::default())
+        templates
     };
+    let compiled = || templates_of_two().clone().compile("t", Options::default());
     let json = r#"{"xs": ["a", 1]}"#;
     let (image, context) = (compiled().unwrap(), Context::from_json(json).unwrap());
     let bytes = image.to_bytes().unwrap();
     let text = || image.run(&context, Budget::default())?.into_text();
     assert_eq!(text(), Ok(long.clone() + "a1"));
     make_under_each_limit(compiled);
+    make_under_each_limit(|| templates_of_two().needs("t", Options::default()));
     make_under_each_limit(|| Image::from_bytes(&bytes));
     make_under_each_limit(|| Context::from_json(json));
     make_under_each_limit(|| image.to_bytes());

@@ -1,8 +1,12 @@
 use jt::{
-    Budget, Context, Error, Fault, Image, Options, Outcome, Place, Spent, Template, Templates,
+    Budget, Context, Error, Fault, Image, Options, Outcome, Place, Progress, Run, Spent, Template,
+    Templates, Used,
 };
-use std::sync::atomic::{AtomicI64, Ordering};
-use std::{fs, io, thread};
+use std::cell::Cell;
+use std::num::NonZeroUsize;
+use std::sync::atomic::{AtomicBool, AtomicI64, AtomicUsize, Ordering};
+use std::time::{Duration, Instant};
+use std::{fs, io, iter, panic, thread};
 
 /// Returns how many bytes the library holds for this thread.
 fn held() -> i64 {
@@ -12,6 +16,10 @@ fn held() -> i64 {
     // SAFETY: the call only reads a number of this thread.
     unsafe { jt_memory_held() }
 }
+
+/// The time by which a run may end late. An idle machine needs some milliseconds; that of the gate
+/// is busy.
+const LATE: Duration = Duration::from_secs(3);
 
 /// Checks at the end of a test that the library holds nothing for its thread.
 struct HoldsNothing;
@@ -222,6 +230,11 @@ fn options_are_kept_apart() {
         let template = Template::new("t", &[("t", source)], options);
         assert_eq!(template.render(&context("{}"), Budget::default()), text(wanted));
     }
+    for (strict, faulty) in [(true, true), (false, false)] {
+        let template = Template::new("t", &[("t", "{{ nope }}")], Options { strict, ..usual });
+        let outcome = template.render(&context("{}"), Budget::default()).unwrap();
+        assert_eq!(matches!(outcome, Outcome::Fault(Fault::Undefined, Some(_))), faulty);
+    }
 }
 
 #[test]
@@ -266,6 +279,29 @@ fn a_site_is_compiled_from_one_library() {
     drop((templates, clone));
     // (One of the threads has read the sources.)
     assert_eq!(held() + held_elsewhere.into_inner(), 0);
+}
+
+#[test]
+fn a_template_needs_names_and_templates() {
+    let _end = HoldsNothing;
+    let many: Vec<_> = (0..500).map(|n| format!("name_{n:03}")).collect();
+    let long: String = many.iter().map(|name| format!("{{{{ {name} }}}}")).collect();
+    let templates = Templates::new(&[
+        ("page", "{% extends 'base' %}{% block b %}{{ x }}{{ title }}{% endblock %}"),
+        ("base", "{{ site }}{% include 'a b' ignore missing %}{% block b %}{% endblock %}"),
+        ("bad", "{{ x|uper }}"),
+        ("long", &long),
+    ]);
+    let needs = templates.needs("page", Options::default()).unwrap();
+    assert_eq!(needs.names, ["site", "title", "x"]);
+    assert_eq!(needs.templates, ["base", "page"]);
+    assert_eq!(needs.missing, ["a b"]);
+    assert_eq!(templates.needs("long", Options::default()).unwrap().names, many);
+    assert_eq!(template("").needs().unwrap().templates, ["t"]);
+    for name in ["bad", "none"] {
+        let error = templates.needs(name, Options::default()).unwrap_err();
+        assert_eq!(error, templates.compile(name, Options::default()).unwrap_err());
+    }
 }
 
 #[test]
@@ -369,6 +405,97 @@ fn an_image_goes_to_another_thread() {
     assert_eq!(all + held(), 0);
 }
 
+/// Runs a template for each context by some threads.
+fn each<I>(source: &str, contexts: I, budget: Budget, workers: usize) -> Vec<Result<Outcome, Error>>
+where
+    I: IntoIterator + Send,
+    I::Item: AsRef<[u8]> + Send,
+{
+    let image = template(source).compile().unwrap();
+    let workers = NonZeroUsize::new(workers).unwrap();
+    thread::scope(|scope| image.run_each(scope, contexts, budget, workers).collect())
+}
+
+#[test]
+fn each_context_has_its_outcome() {
+    let budget = Budget { fuel: 2000, memory: 50_000, ..Budget::default() };
+    let source = "{{ 12 // n }}{% for i in range(n) %}{{ i }}{% endfor %}";
+    let kinds = ["{\"n\": 3}", "{\"n\": 0}", "{\"n\": 9999}", "{\"n\": 1.5}", "{", "{}", ""];
+    let image = template(source).compile().unwrap();
+    for count in [0, 1, 31, 32, 33, 64, 1000] {
+        let contexts: Vec<&str> = kinds.iter().copied().cycle().take(count).collect();
+        let wanted: Vec<_> =
+            contexts.iter().map(|json| image.run(&Context::from_json(json)?, budget)).collect();
+        for workers in [1, 3, 40] {
+            assert_eq!(each(source, contexts.clone(), budget, workers), wanted);
+        }
+    }
+    let texts = each("{{ n * 70000 }}", ["{\"n\": \"a\"}"; 3], Budget::default(), 2);
+    assert_eq!(texts, vec![text(&"a".repeat(70_000)); 3]);
+}
+
+#[test]
+fn few_contexts_are_read_ahead() {
+    let image = template("{{ n }}").compile().unwrap();
+    let read = Cell::new(0);
+    let endless = || {
+        read.set(read.get() + 1);
+        Some(format!("{{\"n\": {}}}", read.get()))
+    };
+    thread::scope(|scope| {
+        let workers = NonZeroUsize::new(2).unwrap();
+        let contexts = iter::from_fn(endless);
+        let outcomes = image.run_each(scope, contexts, Budget::default(), workers);
+        for (n, outcome) in (1..=1000).zip(outcomes) {
+            assert_eq!(outcome, text(&n.to_string()));
+        }
+    });
+    assert!(read.get() <= 1000 + 1 + 32 * 3 * 2, "{}", read.get());
+}
+
+#[test]
+fn a_dropped_iterator_ends_its_threads() {
+    /// A context that counts its run. After the first batch it waits until the iterator is dropped.
+    struct Counting<'a> {
+        at: usize,
+        begun: &'a AtomicUsize,
+        is_dropped: &'a AtomicBool,
+    }
+    impl AsRef<[u8]> for Counting<'_> {
+        fn as_ref(&self) -> &[u8] {
+            self.begun.fetch_add(1, Ordering::SeqCst);
+            while self.at >= 32 && !self.is_dropped.load(Ordering::SeqCst) {
+                thread::sleep(Duration::from_millis(1));
+            }
+            b"{}"
+        }
+    }
+    let image = template("a").compile().unwrap();
+    let (begun, is_dropped) = (AtomicUsize::new(0), AtomicBool::new(false));
+    thread::scope(|scope| {
+        let contexts = (0..).map(|at| Counting { at, begun: &begun, is_dropped: &is_dropped });
+        let workers = NonZeroUsize::new(2).unwrap();
+        let mut outcomes = image.run_each(scope, contexts, Budget::default(), workers);
+        assert_eq!(outcomes.next(), Some(text("a")));
+        drop(outcomes);
+        is_dropped.store(true, Ordering::SeqCst);
+    });
+    // The first batch is run, and of 5 other batches at most one context by each thread.
+    assert!((32..=34).contains(&begun.into_inner()));
+}
+
+#[test]
+fn a_panic_of_a_context_is_passed_on() {
+    struct Odd;
+    impl AsRef<[u8]> for Odd {
+        fn as_ref(&self) -> &[u8] {
+            panic!("odd")
+        }
+    }
+    let run = || each("a", [Odd], Budget::default(), 2);
+    assert!(panic::catch_unwind(run).is_err());
+}
+
 #[test]
 fn what_may_go_to_other_threads_says_so() {
     fn is_shared<T: Send + Sync + 'static>() {}
@@ -377,4 +504,168 @@ fn what_may_go_to_other_threads_says_so() {
     is_shared::<Template>();
     is_shared::<Outcome>();
     is_shared::<Error>();
+}
+
+const ENDLESS: &str = "{% for a in range(1000) %}{% for b in range(1000) %}\
+    {% for c in range(1000) %}{% for d in range(1000) %}\
+    {% endfor %}{% endfor %}{% endfor %}{% endfor %}";
+
+/// Returns a run that does not end within hours.
+fn endless() -> Run {
+    let ample = Budget { fuel: u64::MAX, ..Budget::default() };
+    template(ENDLESS).compile().unwrap().start(&context("{}"), ample).unwrap()
+}
+
+/// Returns how a run in slices of a number of instructions ends.
+fn by_slices(mut run: Run, steps: u32) -> Result<Outcome, Error> {
+    while run.advance(steps)? == Progress::Going {
+        assert_eq!(run.outcome(), Ok(None));
+    }
+    Ok(run.outcome()?.unwrap())
+}
+
+#[test]
+fn a_run_in_slices_ends_as_one_call() {
+    let _end = HoldsNothing;
+    let calls = "{% macro m(x) %}{{ x }}{% endmacro %}{% for i in xs %}{{ m(i) }}{% endfor %}";
+    let (plain, json) = (Budget::default(), r#"{"xs": ["a", 1, "b"], "n": 0}"#);
+    let long = "{% for i in range(5000) %}{{ i }}{% endfor %}";
+    for (source, budget) in [
+        (calls, plain),
+        (calls, Budget { fuel: 20, ..plain }),
+        (calls, Budget { output: 3, ..plain }),
+        (calls, Budget { depth: 0, ..plain }),
+        (calls, Budget { nesting: 0, ..plain }),
+        ("a{{ 1 // n }}", plain),
+        ("{{ xs }}", plain),
+        ("", plain),
+        (long, plain),
+    ] {
+        let (image, context) = (template(source).compile().unwrap(), context(json));
+        let wanted = image.run(&context, budget);
+        for steps in [1, 7, 1000, u32::MAX] {
+            let found = image.start(&context, budget).and_then(|run| by_slices(run, steps));
+            assert_eq!(found, wanted, "{source}");
+        }
+        let mut whole = image.start(&context, budget).unwrap();
+        assert_eq!(whole.run_while(|| true), Ok(Progress::Ended));
+        assert_eq!(whole.outcome().map(Option::unwrap), wanted);
+        assert_eq!(whole.outcome().map(Option::unwrap), wanted);
+    }
+}
+
+#[test]
+fn the_memory_of_a_run_in_slices_is_limited() {
+    let source = "{% for x in xs %}{{ x ~ '!' }}{% endfor %}";
+    let image = template(source).compile().unwrap();
+    let context = context(r#"{"xs": ["a", 1, "b", 2, "c", 3, "d", 4]}"#);
+    let mut refused = 0;
+    for memory in (0..16_384).step_by(64) {
+        for steps in [1, 3, 1000] {
+            let budget = Budget { memory, ..Budget::default() };
+            match image.start(&context, budget).and_then(|run| by_slices(run, steps)) {
+                Err(Error::NoMemory) => refused += 1,
+                outcome => assert_eq!(outcome, text("a!1!b!2!c!3!d!4!")),
+            }
+        }
+    }
+    assert!((10..600).contains(&refused), "{refused}");
+    // A run that was refused memory has no outcome.
+    let lists = "{% for i in range(99) %}{% set a = range(60000)|map('abs') %}{% endfor %}";
+    let budget = Budget { memory: 100_000, ..Budget::default() };
+    let mut run = template(lists).compile().unwrap().start(&context, budget).unwrap();
+    assert_eq!(run.run_while(|| true), Err(Error::NoMemory));
+    assert_eq!((run.advance(1), run.outcome()), (Err(Error::NoMemory), Err(Error::NoMemory)));
+}
+
+#[test]
+fn a_stop_at_each_slice_gives_all_memory_back() {
+    let _end = HoldsNothing;
+    let source = "{% set a = xs|map('upper')|list %}{% for x in a %}{{ x ~ '!' }}{% endfor %}";
+    let (image, context) =
+        (template(source).compile().unwrap(), context(r#"{"xs": ["abc", "de", "f", 1]}"#));
+    let before = held();
+    for stop in 0.. {
+        let mut run = image.start(&context, Budget::default()).unwrap();
+        let progress = (0..stop).map(|_| run.advance(1).unwrap()).last();
+        assert!(held() > before);
+        drop(run);
+        assert_eq!(held(), before, "after {stop} slices");
+        if progress == Some(Progress::Ended) {
+            assert!(stop > 20);
+            return;
+        }
+    }
+}
+
+#[test]
+fn a_run_needs_neither_its_image_nor_its_context() {
+    let _end = HoldsNothing;
+    let started = || {
+        let image = template("{% for x in xs %}{{ x }},{% endfor %}").compile().unwrap();
+        image.start(&context(r#"{"xs": [1, "a"]}"#), Budget::default()).unwrap()
+    };
+    let (mut first, mut second) = (started(), started());
+    while first.advance(2).unwrap() == Progress::Going {
+        second.advance(1).unwrap();
+    }
+    assert_eq!(by_slices(first, 1), text("1,a,"));
+    assert_eq!(by_slices(second, 1), text("1,a,"));
+}
+
+#[test]
+fn a_run_is_stopped_at_a_deadline() {
+    let _end = HoldsNothing;
+    let (mut run, begin) = (endless(), Instant::now());
+    let deadline = begin + Duration::from_millis(100);
+    assert_eq!(run.run_until(deadline), Ok(Progress::Going));
+    assert!(Instant::now() >= deadline && Instant::now() < deadline + LATE);
+    assert_eq!(run.outcome(), Ok(None));
+    let used = run.used();
+    // (A machine that is busy may execute one slice alone.)
+    assert!(used.fuel > 0 && used.output == 0 && used.depth == 0, "{used}");
+    // It goes on where it was.
+    assert_eq!(run.run_until(deadline), Ok(Progress::Going));
+    assert_eq!(run.used(), used);
+    assert_eq!(run.advance(10), Ok(Progress::Going));
+    assert!(run.used().fuel >= used.fuel + 10);
+}
+
+#[test]
+fn a_run_is_cancelled_by_another_thread() {
+    let _end = HoldsNothing;
+    let cancel = AtomicBool::new(false);
+    thread::scope(|scope| {
+        scope.spawn(|| {
+            thread::sleep(Duration::from_millis(50));
+            cancel.store(true, Ordering::Relaxed);
+        });
+        let (mut run, begin) = (endless(), Instant::now());
+        assert_eq!(run.run_unless(&cancel), Ok(Progress::Going));
+        assert!(begin.elapsed() < LATE);
+        let used = run.used();
+        assert_eq!(run.run_unless(&cancel), Ok(Progress::Going));
+        assert_eq!(run.used(), used);
+    });
+}
+
+#[test]
+fn the_least_budget_is_what_was_used() {
+    let _end = HoldsNothing;
+    let calls = "{% macro m(x) %}{% if x %}{{ m(x - 1) }}{% endif %}a{% endmacro %}{{ m(4) }}";
+    let (image, context) = (template(calls).compile().unwrap(), context("{}"));
+    let mut run = image.start(&context, Budget::default()).unwrap();
+    assert_eq!(run.used(), Used::default());
+    run.run_while(|| true).unwrap();
+    let Used { fuel, output, depth } = run.used();
+    assert_eq!(depth, 5);
+    let least = Budget { fuel, output, depth, ..Budget::default() };
+    assert_eq!(image.run(&context, least), text("aaaaa"));
+    for (less, spent) in [
+        (Budget { fuel: fuel - 1, ..least }, Spent::Fuel),
+        (Budget { output: output - 1, ..least }, Spent::Output),
+        (Budget { depth: depth - 1, ..least }, Spent::Depth),
+    ] {
+        assert_eq!(image.run(&context, less), Ok(Outcome::Spent(spent)));
+    }
 }

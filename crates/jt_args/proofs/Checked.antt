@@ -213,6 +213,10 @@ plain : are_checked (codes "no-autoescape") is_switch (built program_app).subs �
 unfolding clap_on_literals is_switch
 plain = refl
 
+strictly : are_checked (codes "strict") is_switch (built program_app).subs ≡ true
+unfolding clap_on_literals is_switch
+strictly = refl
+
 -- Each option of the command that the line gives has a text of its kind.
 abbrev pub HaveAll : Option (Text × List Row) → Type 0
 HaveAll o = IfSome o (λ c. HasNumbers c.1) × IfSome o (λ c. HasSwitches c.1) × IfSome o (λ c. HasSlice c.1)
@@ -225,7 +229,7 @@ checked words e =
     (short 8 255 (codes "nesting") words (omega arith) nesting e)
     (switch (codes "trim-blocks") words trim e) (switch (codes "lstrip-blocks") words strip e)
     (switch (codes "keep-trailing-newline") words newline e)
-    (switch (codes "no-autoescape") words plain e) (slice words e)
+    (switch (codes "no-autoescape") words plain e) (switch (codes "strict") words strictly e) (slice words e)
   where
     go : (o : Option (Text × List Row))
         → IfSome o (λ c. IfSome (one_of (codes "fuel") c.1) (IsNumber 64))
@@ -237,7 +241,8 @@ checked words e =
         → IfSome o (λ c. IfSome (one_of (codes "lstrip-blocks") c.1) IsSwitch)
         → IfSome o (λ c. IfSome (one_of (codes "keep-trailing-newline") c.1) IsSwitch)
         → IfSome o (λ c. IfSome (one_of (codes "no-autoescape") c.1) IsSwitch)
+        → IfSome o (λ c. IfSome (one_of (codes "strict") c.1) IsSwitch)
         → IfSome o (λ c. IfSome (one_of (codes "slice") c.1) IsSliced)
         → HaveAll o
-    go None f d o s n t l k a i = (tt, tt, tt)
-    go (Some c) f d o s n t l k a i = ((f, d, o, s, n), (t, l, k, a), i)
+    go None f d o s n t l k a u i = (tt, tt, tt)
+    go (Some c) f d o s n t l k a u i = ((f, d, o, s, n), (t, l, k, a, u), i)

@@ -45,9 +45,10 @@ with_budget a =
 
 -- A command with the flags for reading templates.
 abbrev pub with_flags : App → App
-with_flags a = with_rule (with_rule (with_rule (with_rule a
+with_flags a = with_rule (with_rule (with_rule (with_rule (with_rule a
     (flag_rule (codes "trim-blocks"))) (flag_rule (codes "lstrip-blocks")))
-    (flag_rule (codes "keep-trailing-newline"))) (flag_rule (codes "no-autoescape"))
+    (flag_rule (codes "keep-trailing-newline"))) (flag_rule (codes "no-autoescape")))
+    (flag_rule (codes "strict"))
 
 -- The word for a context, which may be left out.
 abbrev pub context_rule : Rule
@@ -187,6 +188,7 @@ IsOptions rows options = IsFlag (one_of (codes "trim-blocks") rows) options.trim
     × IsFlag (one_of (codes "lstrip-blocks") rows) options.lstrip_blocks
     × IsFlag (one_of (codes "keep-trailing-newline") rows) options.keep_trailing_newline
     × IsFlag (one_of (codes "no-autoescape") rows) (not options.autoescape)
+    × IsFlag (one_of (codes "strict") rows) options.strict
 
 abbrev pub usual_options : Options
 usual_options = record {
@@ -194,6 +196,7 @@ usual_options = record {
   lstrip_blocks = false;
   keep_trailing_newline = false;
   autoescape = true;
+  strict = false;
 }
 
 -- The text of a word, or the empty text if the line lacks the word.
@@ -294,3 +297,4 @@ HasSwitches rows = IfSome (one_of (codes "trim-blocks") rows) IsSwitch
     × IfSome (one_of (codes "lstrip-blocks") rows) IsSwitch
     × IfSome (one_of (codes "keep-trailing-newline") rows) IsSwitch
     × IfSome (one_of (codes "no-autoescape") rows) IsSwitch
+    × IfSome (one_of (codes "strict") rows) IsSwitch

@@ -111,6 +111,12 @@ const NO_AUTOESCAPE: Argument = Argument {
     help: "Escapes values only where a template requests it",
 };
 
+const STRICT: Argument = Argument {
+    name: "strict",
+    kind: ArgumentKind::Flag,
+    help: "Fails where an undefined value is printed, iterated over, joined or filtered",
+};
+
 const FUEL: Argument = Argument {
     name: "fuel",
     kind: ArgumentKind::Number(LONG),
@@ -159,6 +165,7 @@ const COMMANDS: [CommandForm; 8] = [
             LSTRIP_BLOCKS,
             KEEP_TRAILING_NEWLINE,
             NO_AUTOESCAPE,
+            STRICT,
         ],
     },
     CommandForm {
@@ -172,6 +179,7 @@ const COMMANDS: [CommandForm; 8] = [
             LSTRIP_BLOCKS,
             KEEP_TRAILING_NEWLINE,
             NO_AUTOESCAPE,
+            STRICT,
             FUEL,
             DEPTH,
             OUTPUT,
@@ -205,6 +213,7 @@ const COMMANDS: [CommandForm; 8] = [
             LSTRIP_BLOCKS,
             KEEP_TRAILING_NEWLINE,
             NO_AUTOESCAPE,
+            STRICT,
             FUEL,
             DEPTH,
             OUTPUT,

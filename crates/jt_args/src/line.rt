@@ -244,6 +244,7 @@ fn options(found: &ArgMatches<'_>) -> Options
         lstrip_blocks: flag(found, "lstrip-blocks"),
         keep_trailing_newline: flag(found, "keep-trailing-newline"),
         autoescape: !flag(found, "no-autoescape"),
+        strict: flag(found, "strict"),
     }
 }
 

@@ -35,15 +35,26 @@ impl<'t, 'f, 's, 'a> Resolver<'t, 'f, 's, 'a> {
         Ok(())
     }
 
-    /// Emits a print of a value.
+    /// Emits a print of a value, which is required if `required` holds.
     #[inline(never)]
-    pub(crate) fn put_print(&self, line: u32, value: SlotExpr, done: &mut SlotBody) -> Result<()>
+    pub(crate) fn put_print(
+        &self,
+        line: u32,
+        shown: SlotExpr,
+        required: bool,
+        done: &mut SlotBody,
+    ) -> Result<()>
         ensures { IfOk result (λ u. (c : Term) (p q : List Tree)
-            → IsShown c value p q → Emits (templates_of self.now) (alone (slots.print
-            (line_of self.now line) self.now.senv.escaping c)) done.old.items done.new.items p q) }
+            → IsShown c shown p q → Emits (templates_of self.now) (alone (slots.print
+            (line_of self.now line) self.now.senv.escaping (slots.required_if required c)))
+            done.old.items done.new.items p q) }
     {
-        let filters = Vec::new(*done.allocator());
-        put_filtered(&self.senv, line, Filtered { value, filters }, done)
+        let filtered = Filtered {
+            value: shown,
+            filters: Vec::new(*done.allocator()),
+            required,
+        };
+        put_filtered(&self.senv, line, filtered, done)
     }
 
     /// Returns a read of the name if `with_context` is true, or else the undefined value.

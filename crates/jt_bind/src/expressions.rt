@@ -3,21 +3,24 @@
 ghost use Rattle.jt_ast.specs.ExpressionView.{expr_view};
 ghost use Rattle.jt_ast.specs.Expressions as trees;
 ghost use Rattle.jt_ir.specs.Slots as slots;
+ghost use Rattle.jt_semantics.specs.Operators as operators;
+ghost use Rattle.jt_semantics.specs.Resolve.{operation_of};
 ghost use Rattle.jt_bind.specs.internal.{cycle_of, none, filter_row_of, entries_of, IfOk, Some};
 ghost use Rattle.jt_bind.specs.internal.{length, exprs_view, is_negated, literal_view, pairs_view};
 ghost use Rattle.jt_bind.specs.internal.{IsResolved, RowAdds, RowPuts, asides_of, by_name};
 ghost use Rattle.jt_bind.specs.internal.{by_position, filled_of, expr_of, given_of, row_of};
-ghost use Rattle.jt_bind.specs.internal.{IsAdded, literal, filter_id, own, nary_op_view};
+ghost use Rattle.jt_bind.specs.internal.{IsAdded, literal, filter_id, own, nary_op_view, true};
 
 use crate::Result;
 use crate::callee::{Callee, Signature};
 use crate::held::{Held, boxed};
 use crate::lookup::{absent, reading, told};
 use crate::operator_forms::{
-    OperatorForm, apply_shortcut, chosen, form_of, item_in_turn, literal_value, on_one, range_of,
-    turned, unary_operation,
+    OperatorForm, apply_shortcut, chosen, form_of, item_in_turn, join, literal_value, on_one,
+    range_of, turned, unary_operation,
 };
 use crate::pool::{Pool, add_text, add_value};
+use crate::required::required_if;
 use crate::resolver::{Arguments, Resolver};
 use crate::rows::{Row, put_argument};
 use jt_ast::{BinaryOperator, Expr, Literal, Polarity};
@@ -159,6 +162,9 @@ impl<'t, 'f, 's, 'a> Resolver<'t, 'f, 's, 'a> {
         ensures { IfOk result (λ e. IsResolved self.now (trees.binary operator (expr_view left.now)
             (expr_view right.now)) e pool.old pool.new) }
     {
+        if self.requires_operands(operator) {
+            return self.resolve_joined(left, right, pool);
+        }
         let (first, rest) = (slice::from_ref(left), slice::from_ref(right));
         match form_of(self.senv.escaping, operator) {
             OperatorForm::Operation(op) => {
@@ -174,6 +180,42 @@ impl<'t, 'f, 's, 'a> Resolver<'t, 'f, 's, 'a> {
                 Ok(apply_shortcut(operator, first, second))
             }
         }
+    }
+
+    /// Resolves the operator `~` of strict templates, which requires both operands.
+    #[cycle(expressions)]
+    #[inline(never)]
+    fn resolve_joined(&self, left: &Expr, right: &Expr, pool: &mut Pool) -> Result<SlotExpr>
+        ensures { IfOk result (λ e. IsAdded (operation_of (operators.join self.now.senv.escaping)
+            (slots.required_if true (expr_of self.now (expr_view left.now)))
+            (slots.required_if true (expr_of self.now (expr_view right.now)))) e pool.old
+            pool.new) }
+    {
+        let mut operands = Held {
+            part: Vec::with_capacity(self.alloc, 2)?,
+        };
+        self.resolve_operand(left, true, &mut operands.part, pool)?;
+        self.resolve_operand(right, true, &mut operands.part, pool)?;
+        let op = NaryOp::Operator(join(self.senv.escaping));
+        Ok(SlotExpr::Made(op, operands.into_part()))
+    }
+
+    /// Resolves an operand, which is required if `required` holds, and appends it.
+    #[cycle(expressions)]
+    #[inline(never)]
+    fn resolve_operand(
+        &self,
+        operand: &Expr,
+        required: bool,
+        done: &mut Row,
+        pool: &mut Pool,
+    ) -> Result<()>
+        ensures { IfOk result (λ u. RowPuts (slots.item (slots.required_if required
+            (expr_of self.now (expr_view operand.now)))) done.old done.new pool.old pool.new) }
+    {
+        let value = self.resolve_expression(operand, pool)?;
+        let next = required_if(self.alloc, required, value)?;
+        put_argument(done, None, next)
     }
 
     /// Resolves a conditional expression without an `else` part.
@@ -259,7 +301,7 @@ impl<'t, 'f, 's, 'a> Resolver<'t, 'f, 's, 'a> {
         let mut given = Held {
             part: Vec::new(self.alloc),
         };
-        self.resolve_row(slice::from_ref(value), &mut given.part, pool)?;
+        self.resolve_operand(value, self.requires_input(filter), &mut given.part, pool)?;
         self.resolve_filter_row(filter, arguments, &mut given.part, pool)?;
         let op = NaryOp::Filter {
             filter,

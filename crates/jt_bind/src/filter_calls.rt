@@ -3,7 +3,9 @@
 ghost use Rattle.std.specs.Prelude.{◌∷◌, ◌≡◌};
 ghost use Rattle.jt_bind.specs.internal.{variable, [], filters_of, IfOk, List, length};
 ghost use Rattle.jt_bind.specs.internal.{filter_call_view, filter_calls_view, IsPlaced, values};
-ghost use Rattle.jt_bind.specs.internal.{Term, filtered_view, slot_view, Tree};
+ghost use Rattle.jt_bind.specs.internal.{Term, filtered_view, filters_view, slot_view, Tree};
+ghost use Rattle.jt_bind.specs.internal.{cenv_in};
+ghost use Rattle.jt_ir.specs.Slots.{required_if};
 
 use crate::Result;
 use crate::lookup::absent;
@@ -14,7 +16,8 @@ use jt_eval::filter_of;
 use jt_ir::{Filtered, Slot, SlotExpr, SlotFilter};
 
 impl<'t, 'f, 's, 'a> Resolver<'t, 'f, 's, 'a> {
-    /// Returns the value of a slot with the filters of a tag, which are applied in order.
+    /// Returns the value of a slot with the filters of a tag, which are applied in order. Strict
+    /// templates require the result.
     #[tactic(auto, using(crate::proofs::filters_next, crate::proofs::view_Variable, crate::proofs::list_lemmas))]
     #[inline(never)]
     pub(crate) fn resolve_filter_calls(
@@ -23,14 +26,16 @@ impl<'t, 'f, 's, 'a> Resolver<'t, 'f, 's, 'a> {
         value: Slot,
         pool: &mut Pool,
     ) -> Result<Filtered>
-        ensures { IfOk result (λ v. IsPlaced (filters_of self.now
-            (filter_calls_view filter_calls.now) (variable (slot_view value)))
-            (filtered_view v) (values pool.old) (values pool.new)) }
+        ensures { IfOk result (λ v. IsPlaced (required_if (cenv_in self.now.tables.now).strict
+            (filters_of self.now (filter_calls_view filter_calls.now)
+            (variable (slot_view value)))) (filtered_view v) (values pool.old)
+            (values pool.new)) }
     {
         let start = pool.len();
         let mut resolved = Filtered {
             value: SlotExpr::Variable(value),
             filters: Vec::new(self.alloc),
+            required: self.is_strict(),
         };
         for filter_call in filter_calls {
             self.resolve_filter_call(filter_call, start, &mut resolved, pool)?;
@@ -47,10 +52,11 @@ impl<'t, 'f, 's, 'a> Resolver<'t, 'f, 's, 'a> {
         done: &mut Filtered,
         pool: &mut Pool,
     ) -> Result<()>
-        ensures { IfOk result (λ u. (c : Term) (p : List Tree) → length p ≡ start
-            → IsPlaced c (filtered_view done.old) p (values pool.old) → IsPlaced
+        ensures same { IfOk result (λ u. done.new.required ≡ done.old.required) }
+        ensures added { IfOk result (λ u. (c : Term) (p : List Tree) → length p ≡ start
+            → IsPlaced c (filters_view done.old) p (values pool.old) → IsPlaced
             (filters_of self.now (filter_call_view filter_call.now ∷ []) c)
-            (filtered_view done.new) p (values pool.new)) }
+            (filters_view done.new) p (values pool.new)) }
     {
         let row = filter_call.arguments.as_slice();
         let pairs = filter_call.keywords.as_slice();
@@ -65,6 +71,7 @@ impl<'t, 'f, 's, 'a> Resolver<'t, 'f, 's, 'a> {
         done.filters.push(SlotFilter {
             filter,
             escaping: self.senv.escaping,
+            required: self.requires_input(filter),
             row: given,
         })?;
         Ok(())

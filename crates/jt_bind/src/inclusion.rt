@@ -35,7 +35,7 @@ impl<'t, 'f, 's, 'a> Resolver<'t, 'f, 's, 'a> {
         if ignore_missing {
             return Ok(());
         }
-        self.put_print(line, absent(), done)
+        self.put_print(line, absent(), false, done)
     }
 
     /// Emits an include: the names that are passed, then the run of the included chain.
@@ -72,7 +72,7 @@ impl<'t, 'f, 's, 'a> Resolver<'t, 'f, 's, 'a> {
             required body)) done.old.items done.new.items p p) }
     {
         let Some(unit) = self.tables.first_body(name)? else {
-            return self.put_print(1, absent(), done);
+            return self.put_print(1, absent(), false, done);
         };
         let seen = Resolver {
             senv: seen_by(&self.senv, scoped),

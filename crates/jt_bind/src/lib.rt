@@ -2,10 +2,10 @@
 //!
 //! `resolved` (in `resolving`) lays out the chains and libraries (`tables`) and resolves them in
 //! order (`namespaces`, `routines`). A `Resolver` (`resolver`, `senv`) resolves statements
-//! (`statements`) and the expressions in them (`expressions`). Its environment keeps names in
-//! scopes (`name_scope`), and values go into a pool (`pool`, `shared`). jt_checks decides whether
-//! chains keep the rules. Read first: resolving.rt; specs/Resolve.antt of jt_semantics defines the
-//! result.
+//! (`statements`) and the expressions in them (`expressions`), and in strict templates the values
+//! that must be defined (`required`). Its environment keeps names in scopes (`name_scope`), and
+//! values go into a pool (`pool`, `shared`). jt_checks decides whether chains keep the rules. Read
+//! first: resolving.rt; specs/Resolve.antt of jt_semantics defines the result.
 #![tactic(auto)]
 
 mod argument_filling;
@@ -23,6 +23,7 @@ mod namespaces;
 mod operator_forms;
 mod pool;
 mod program_names;
+mod required;
 mod resolver;
 mod resolving;
 mod routines;

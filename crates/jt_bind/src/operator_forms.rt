@@ -109,7 +109,7 @@ pub(crate) fn form_of(escaping: bool, operator: BinaryOperator) -> OperatorForm
 }
 
 /// Returns the operation that joins texts.
-fn join(escaping: bool) -> OpId
+pub(crate) fn join(escaping: bool) -> OpId
     ensures { result ≡ operators.join escaping }
 {
     if escaping {

@@ -12,6 +12,7 @@ ghost use Rattle.jt_bind.specs.internal.{body_view, branches_view, filter_calls_
 ghost use Rattle.jt_bind.specs.internal.{texts, AreTurns, IsBranch, Puts, PutsStmt, line_of};
 ghost use Rattle.jt_bind.specs.internal.{body_of, expr_of, inside_of, scoped_of, senv_of, stmt_of};
 ghost use Rattle.jt_bind.specs.internal.{templates_of, values, Emits, IsAsked, IsHead, slot_view};
+ghost use Rattle.jt_bind.specs.internal.{required_of};
 
 use crate::Result;
 use crate::emission::{
@@ -224,7 +225,7 @@ impl<'t, 'f, 's, 'a> Resolver<'t, 'f, 's, 'a> {
     ) -> Result<Held<Turns>>
         ensures { IfOk result (λ t. AreTurns self.now.tables.now (resolve.fresh_targets
             self.now.senv.free (names_view tag.entry.names.now))
-            (expr_of self.now (expr_view tag.entry.over.now)) (condition_in self.now.tables.now
+            (required_of self.now (expr_view tag.entry.over.now)) (condition_in self.now.tables.now
             (option_map expr_view tag.entry.condition.now)
             (inside_of self.now (names_view tag.entry.names.now))) (scoped_of self.now
             (body_view body.now) (inside_of self.now (names_view tag.entry.names.now))) t.part
@@ -255,12 +256,12 @@ impl<'t, 'f, 's, 'a> Resolver<'t, 'f, 's, 'a> {
         pool: &mut Pool,
     ) -> Result<Box<LoopHead>>
         ensures { IfOk result (λ h. IsHead (resolve.fresh_targets self.now.senv.free
-            (names_view tag.entry.names.now)) (expr_of self.now (expr_view tag.entry.over.now))
+            (names_view tag.entry.names.now)) (required_of self.now (expr_view tag.entry.over.now))
             (condition_in inside.now.tables.now (option_map expr_view tag.entry.condition.now)
             (senv_of inside.now)) h.value (values pool.old) (values pool.new)) }
     {
         let targets = fresh_targets(self.alloc, self.senv.free, tag.names)?;
-        let items = self.resolve_expression(tag.over, pool)?;
+        let items = self.resolve_required(tag.over, pool)?;
         let condition = inside.resolve_condition(tag.condition, pool)?;
         let head = LoopHead {
             targets,
@@ -418,7 +419,7 @@ impl<'t, 'f, 's, 'a> Resolver<'t, 'f, 's, 'a> {
             done.old done.new pool.old pool.new) }
     {
         let shown = self.resolve_expression(value, pool)?;
-        self.put_print(line, shown, done)
+        self.put_print(line, shown, self.is_strict(), done)
     }
 
     /// Resolves the condition of a loop, if it has one.

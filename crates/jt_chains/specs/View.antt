@@ -19,6 +19,8 @@ pub record Seen : Type 0 where
   pub order : List Namespace
   -- Whether text outside `autoescape` tags is escaped.
   pub escaping : Bool
+  -- Whether an undefined value is a fault where a value is required.
+  pub strict : Bool
 
 abbrev pub sources_of : Seen → Sources
 sources_of chain = sources_in chain.templates
@@ -29,6 +31,7 @@ chain_view chain =
       templates = files_view chain.templates.items;
       order = map namespace_view chain.namespaces.items;
       escaping = chain.autoescape;
+      strict = chain.strict;
     }
 
 -- The templates of a chain, and their sources.

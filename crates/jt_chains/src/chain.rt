@@ -32,6 +32,8 @@ pub struct Chain {
     pub namespaces: Vec<Namespace>,
     /// Whether text outside `autoescape` tags is escaped.
     pub autoescape: bool,
+    /// Whether an undefined value is a fault where a value is required.
+    pub strict: bool,
     /// The index in `templates` of each template, by its name.
     pub indices: BTreeMap<String, usize>,
     pub ghost once: { repeated (map (λ t. t.name) (files_view templates.items)) ≡ false },

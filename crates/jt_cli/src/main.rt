@@ -1,9 +1,14 @@
 //! Runs the program `jt`: `main` passes its words, files and outputs to `perform` of jt_program.
+//! The writers of pipes.rt end a line quietly whose output nobody reads any more.
 #![tactic(auto)]
 
+mod pipes;
+
+use crate::pipes::{Piped, Reasons};
 use jt_host::CallError;
 use jt_machine::IoSink;
 use jt_program::{Failure, SystemFiles, perform, report};
+use std::cell::Cell;
 use std::io;
 use std::process::ExitCode;
 
@@ -43,11 +48,12 @@ fn perform_on(rt: &HostRuntime, words: &[String]) -> u8 {
         }
     }
     let mut files = SystemFiles::new(rt);
+    let is_closed = Cell::new(false);
     perform(
         alloc,
         texts.as_slice(),
         &mut files,
-        &mut IoSink::new(rt.stdout()),
-        &mut IoSink::new(rt.stderr()),
+        &mut IoSink::new(Piped::new(rt.stdout(), &is_closed)),
+        &mut IoSink::new(Reasons::new(rt.stderr(), &is_closed)),
     )
 }

@@ -133,7 +133,8 @@ only_chain given entry options c is each one = record {
   each = each;
   only = λ d id.
       let same : d.escaping ≡ c.escaping = id.escaping ∙ sym is.escaping in
-      λ i. record { filters = the_filters; sources = λ n. sym (one d id n) i; escaping = same i };
+      let strictly : d.strict ≡ c.strict = id.strict ∙ sym is.strict in
+      λ i. record { filters = the_filters; sources = λ n. sym (one d id n) i; escaping = same i; strict = strictly i };
 }
 
 -- The texts of numbered names.

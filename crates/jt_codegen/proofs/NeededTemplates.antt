@@ -39,7 +39,8 @@ use Rattle.jt_codegen.proofs.OtherLibraries.{alike}
 
 -- The chain without its first chains and libraries.
 abbrev pub from : Seen → ℕ → Seen
-from c i = record { templates = c.templates; order = drop i c.order; escaping = c.escaping }
+from c i =
+    record { templates = c.templates; order = drop i c.order; escaping = c.escaping; strict = c.strict }
 
 -- The missing includes of a chain or a library.
 abbrev pub lacks : Seen → Namespace → List Text

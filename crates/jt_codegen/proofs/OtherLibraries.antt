@@ -43,6 +43,7 @@ module _ (given other : SourceTexts) (entry : Text) (options : Options) (c : See
   there : IsChain other entry options c
   there = record {
     escaping = is.escaping;
+    strict = is.strict;
     read = record {
       each =
           each_named (IsRead given options) (IsRead other options) (λ n. given n ≡ other n)

@@ -1,6 +1,7 @@
 -- Each place in the code of chains is that of a tag: a template of a chain, and the line of one of
 -- its tags.
 use Rattle.std.proofs.Common.{ℕ, suc, Bool, true, false, if◌then◌else◌, List, [], ◌∷◌, ◌++◌, map, Option, Some, None}
+use Rattle.std.proofs.Common.{arith, rules}
 use Rattle.std.specs.Prelude.{flat_map, filter}
 use Rattle.std.specs.Str.{bytes_eq}
 use Rattle.std.specs.List.{AllByRecursion}
@@ -21,11 +22,12 @@ use Rattle.jt_semantics.specs.Resolve.{StaticEnv, place, left_out, grown, bound_
 use Rattle.jt_semantics.specs.Resolve.{followed, first_body, resolved_values, placed_body, resolved_stmt, resolved_body}
 use Rattle.jt_semantics.specs.Resolve.{resolved_choice, resolved_sets, top_senv, resolved_chain, macro_routine}
 use Rattle.jt_ir.specs.Slots as slots
-use Rattle.jt_ir.specs.Slots.{SlotExpr, SRow, Targets, SlotStmt, SBody, Routine, Slot}
+use Rattle.jt_ir.specs.Slots.{NaryOp, SlotExpr, SRow, Targets, SlotStmt, SBody, Routine, Slot}
+use Rattle.jt_ir.specs.Size.{row_count}
 use Rattle.jt_ir.specs.Pool.{Constant, placed_stmt, placed_body as pooled_body, placed_routines}
 use Rattle.jt_lower.specs.Asm.{Asm, nil, one, both, choose as either, when, each, invoke, places}
-use Rattle.jt_lower.specs.Lower.{expr_asm, row_asm, stores_asm, take_asm, kept_asm, stmt_asm, body_asm, routine_places}
-use Rattle.jt_lower.specs.Lower.{places_of}
+use Rattle.jt_lower.specs.Lower.{made_asm, expr_asm, row_asm, stores_asm, take_asm, kept_asm, stmt_asm, body_asm}
+use Rattle.jt_lower.specs.Lower.{routine_places, places_of}
 use Rattle.jt_lower.proofs.LawfulProgramsFit.{all_append}
 use Rattle.jt_codegen.proofs.EitherHolds.{either_of}
 
@@ -97,10 +99,13 @@ module _ (P : Place → Type 0) where
   asm_placed (each a) h = (tt, all_append OnTag (places a) (None ∷ []) (asm_placed a h) (tt, tt))
   asm_placed (invoke o u) h = (h, tt)
 
+  made_placed : (k : NaryOp) (n : ℕ) (o : Option Place) → OnTag o → AsmPlaced (made_asm o k n)
+  made_placed k n o t = search (arith, rules)
+
   mutual
     expr_placed : (e : SlotExpr ℕ) (o : Option Place) (h : ℕ) → OnTag o → AsmPlaced (expr_asm o e h)
     expr_placed slots.absent o h t = tt
-    expr_placed (slots.made k es) o h t = (row_placed es o h t, t)
+    expr_placed (slots.made k es) o h t = (row_placed es o h t, made_placed k (row_count es) o t)
     expr_placed (slots.conjunction a b) o h t = (expr_placed a o h t, (t, ((t, expr_placed b o h t), tt)))
     expr_placed (slots.disjunction a b) o h t = (expr_placed a o h t, (t, (tt, (t, expr_placed b o h t))))
     expr_placed (slots.choice c a b) o h t = (expr_placed c o h t, (expr_placed a o h t, expr_placed b o h t))

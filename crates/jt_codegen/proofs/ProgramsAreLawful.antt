@@ -1,8 +1,7 @@
 -- Resolved programs are lawful: their slots are existing globals, and their constants are values
 -- with a place.
-use Rattle.std.proofs.Common.{◌≡◌, ℕ, zero, suc, ◌+◌, ◌<◌, ◌≤◌, Bool, true, false, if◌then◌else◌, List, [], ◌∷◌, ◌++◌}
+use Rattle.std.proofs.Common.{◌≡◌, ℕ, suc, ◌+◌, ◌<◌, ◌≤◌, Bool, true, false, if◌then◌else◌, List, [], ◌∷◌, ◌++◌}
 use Rattle.std.proofs.Common.{length, Option, Some, None, inl, inr, arith, refl, ap, ◌∙◌, length-append, rules}
-use Rattle.std.specs.Option.{is_none}
 use Rattle.std.specs.List.{AllByRecursion}
 use Rattle.std.specs.Str.{bytes_eq}
 use Rattle.std.specs.Prelude as prelude
@@ -10,46 +9,33 @@ use Rattle.std.specs.Prelude.{map, flat_map, ◌||◌}
 use Rattle.std.proofs.lemmas.List.{length-map}
 use Rattle.std.proofs.lemmas.Bool.{or_right}
 use Rattle.jt_value.specs.Tree.{Tree}
-use Rattle.jt_ids.specs.declared.test_id.TestId.{TestId}
-use Rattle.jt_ast.specs.Expressions.{Expr, Literal, constant, name, group, list_of, map_of, attribute, item, call}
-use Rattle.jt_ast.specs.Expressions.{filter, test, unary, binary, when, choice, Exprs, no_exprs, expr, Pairs, no_pairs}
-use Rattle.jt_ast.specs.Expressions.{pair, Text}
-use Rattle.jt_semantics.specs.Operators.{OperatorForm}
-use Rattle.jt_value.specs.Place.{Place}
+use Rattle.jt_ast.specs.Expressions.{Expr, Literal, Text}
 use Rattle.jt_eval.specs.Values.{literal}
-use Rattle.jt_chains.specs.Uses.{count, keywords, set_in, own_names}
+use Rattle.jt_chains.specs.Uses.{own_names}
 use Rattle.jt_chains.specs.Includes.{included, InOrder}
-use Rattle.jt_ast.specs.Statements.{Parameter, FilterCall, Stmt, data_of, print, choose, for_each, set, set_block}
-use Rattle.jt_ast.specs.Statements.{with_values, filter_block, autoescape, include, block, Body, end, stmt, Branches}
-use Rattle.jt_ast.specs.Statements.{no_branches, branch}
+use Rattle.jt_ast.specs.Statements.{Parameter, Body}
 use Rattle.jt_chains.specs.Chain.{Namespace, a_chain, a_library, same_namespace, listed, Template, templates, BlockBody}
-use Rattle.jt_chains.specs.Chain.{MacroBody, macros, macro_of, given, Callee, a_macro, callee}
-use Rattle.jt_ids.specs.declared.loop_field.LoopField.{LoopField}
+use Rattle.jt_chains.specs.Chain.{MacroBody, macros, macro_of, given, a_macro, callee}
 use Rattle.jt_eval.specs.Filters.{default_value}
-use Rattle.jt_ast.specs.Texts.{among, ascending}
+use Rattle.jt_ast.specs.Texts.{ascending}
 use Rattle.jt_rules.specs.CompileEnv.{CompileEnv}
 use Rattle.jt_semantics.specs.Expressions.{filter_parameters}
-use Rattle.jt_semantics.specs.Layout.{Table, slot_in, globals_from, in_globals, defaults_of, first_default, names_in}
+use Rattle.jt_semantics.specs.Layout.{globals_from, in_globals, defaults_of, first_default, names_in}
 use Rattle.jt_semantics.specs.Layout.{names, first_in, numbered_bodies, globals, block_parameters, shared}
-use Rattle.jt_semantics.specs.Layout.{default_in, default_index, first_slot, unit, of_chain}
-use Rattle.jt_semantics.specs.Meaning.{is_set}
+use Rattle.jt_semantics.specs.Layout.{default_in, default_index, first_slot}
 use Rattle.jt_semantics.specs.Programs.{body_routines, entry_routines, chain_routines, routines, count_globals, program}
 use Rattle.jt_ir.specs.Slots as slots
-use Rattle.jt_ir.specs.Slots.{Slot, local, SlotExpr, SRow, SBody, variable, run, Routine}
+use Rattle.jt_ir.specs.Slots.{Slot, SlotExpr, SRow, SBody, Routine}
 use Rattle.jt_ir.specs.Takes.{BodyTakes}
 use Rattle.jt_eval.specs.TheFilters.{the_filters}
-use Rattle.jt_ir.specs.Pool.{Constant, known}
-use Rattle.jt_semantics.specs.Resolve.{value_or, read_from, turned_round, tested_by, filtered_by, in_form, field_from}
-use Rattle.jt_semantics.specs.Resolve.{followed, locals_from, fresh, fresh_targets, kept_slots, slot_of, set_targets}
-use Rattle.jt_semantics.specs.Resolve.{filled, filled_some, first_locals, reads, handed_on, Part, StaticEnv, place}
-use Rattle.jt_semantics.specs.Resolve.{left_out, grown, bound_table, bound_all, copied, scoped}
-use Rattle.jt_semantics.specs.Resolve.{invoked_body, invoked_super, invoked, resolved, resolved_row, resolved_asides}
-use Rattle.jt_semantics.specs.Resolve.{resolved_entries, resolved_condition, resolved_filters, resolved_values}
-use Rattle.jt_semantics.specs.Resolve.{placed_body, resolved_stmt, resolved_body, resolved_choice, top_senv}
-use Rattle.jt_semantics.specs.Resolve.{resolved_sets, resolved_chain, resolved_routine, chain_routine, macro_routine}
-use Rattle.jt_lower.specs.Fits.{IsBare, OfSome, OfSlots, OfTargets, IsPooled}
-use Rattle.jt_lower.specs.Lawful.{ConstantLawful, SlotLawful, ExprLawful, RowLawful, ConditionLawful, BodyLawful}
-use Rattle.jt_lower.specs.Lawful.{RoutineLawful, AreLawful}
+use Rattle.jt_ir.specs.Pool.{Constant}
+use Rattle.jt_semantics.specs.Resolve.{followed, StaticEnv, top_senv, resolved_chain, resolved_routine, chain_routine}
+use Rattle.jt_semantics.specs.Resolve.{macro_routine}
+use Rattle.jt_lower.specs.Fits.{IsBare, OfSlots, OfTargets, IsPooled}
+use Rattle.jt_lower.specs.Lawful.{ConstantLawful, SlotLawful, ExprLawful, RowLawful, ConditionLawful, StmtLawful}
+use Rattle.jt_lower.specs.Lawful.{BodyLawful, RoutineLawful, AreLawful}
+use Rattle.jt_semantics.proofs.TreesHaveParts as trees
+use Rattle.jt_semantics.proofs.TreesHaveParts.TreeParts as parts
 use Rattle.jt_semantics.proofs.RoutineLookup.{macro_named}
 use Rattle.jt_semantics.proofs.DefinedNames.{LeadsTo, called_macro}
 use Rattle.jt_semantics.proofs.ChainOrder.{libraries_stand}
@@ -77,118 +63,111 @@ module _ (front globals_count : ℕ) (some : 0 < front) where
   abbrev S : Slot → Type 0
   S = SlotLawful front globals_count
 
-  abbrev pub Fine : Table → Type 0
-  Fine t = AllByRecursion (λ e. S e.1) t
+  abbrev pub Lawful : parts.Parts
+  Lawful = record {
+    slot = S;
+    constant = ConstantLawful front globals_count;
+    called = λ c. Unit {0};
+    filtered = λ c. Unit {0};
+    targets = λ c. Unit {0};
+    names = λ c. Unit {0};
+  }
 
-  abbrev SomeFine : Option Slot → Type 0
-  SomeFine = OfSome S
+  read_lawful : {e : SlotExpr Constant} → parts.IsRead Lawful e → E e
+  read_lawful (parts.known_read h) = h
+  read_lawful (parts.variable_read h) = h
 
-  slot_fine : (t : Table) (x : Text) → Fine t → SomeFine (slot_in x t)
-  slot_fine [] x h = tt
-  slot_fine (b ∷ bs) x h = either_of SomeFine (bytes_eq b.0 x) (Some b.1) (slot_in x bs) h.0 (slot_fine bs x h.1)
+  leaf_lawful : {e : SlotExpr Constant} → parts.IsLeaf Lawful e → E e
+  leaf_lawful (parts.read_leaf e) = read_lawful e
+  leaf_lawful (parts.own_leaf h) = h
+  leaf_lawful parts.field_leaf = tt
+  leaf_lawful parts.absent_leaf = tt
 
-  of_fine : (t : Table) (x : Text) → Fine t → S (slot_of x t)
-  of_fine [] x h = tt
-  of_fine (b ∷ bs) x h = either_of S (bytes_eq b.0 x) b.1 (slot_of x bs) h.0 (of_fine bs x h.1)
+  loads_lawful : {n k : ℕ} {es : SRow Constant} → parts.LoadsOf Lawful n k es → R es × IsBare es
+  loads_lawful parts.no_loads = (tt, tt)
+  loads_lawful (parts.load l (parts.known_read h) es) = let r = loads_lawful es in ((h, r.0), r.1)
+  loads_lawful (parts.load l (parts.variable_read h) es) = let r = loads_lawful es in ((h, r.0), r.1)
+  loads_lawful (parts.default h es) = let r = loads_lawful es in ((h, r.0), r.1)
 
-  value_fine : (s : Option Slot) (k : Constant) → SomeFine s → ConstantLawful front globals_count k → E (value_or s k)
-  value_fine None k h g = g
-  value_fine (Some s) k h g = h
+  mutual
+    expr_lawful : {w : ℕ} {e : SlotExpr Constant} → parts.ExprOf Lawful w e → E e
+    expr_lawful (parts.leaf e) = leaf_lawful e
+    expr_lawful (parts.single a) = (expr_lawful a, tt)
+    expr_lawful (parts.pair a b) = (operand_lawful a, (operand_lawful b, tt))
+    expr_lawful (parts.operation es) = row_lawful es
+    expr_lawful (parts.filter f l k es) = row_lawful es
+    expr_lawful (parts.both a b) = (operand_lawful a, operand_lawful b)
+    expr_lawful (parts.either a b) = (operand_lawful a, operand_lawful b)
+    expr_lawful (parts.when c a b) = (expr_lawful c, expr_lawful a, read_lawful b)
+    expr_lawful (parts.chosen c a b) = (expr_lawful c, expr_lawful a, expr_lawful b)
+    expr_lawful (parts.call f l es) = row_lawful es
+    expr_lawful (parts.more l e) = expr_lawful e
 
-  read_fine : (s : Option Slot) → SomeFine s → E (read_from s)
-  read_fine s h = value_fine s (known 0) h some
+    operand_lawful : {w : ℕ} {e : SlotExpr Constant} → parts.OperandOf Lawful w e → E e
+    operand_lawful (parts.plain e) = expr_lawful e
+    operand_lawful (parts.needed e) = (expr_lawful e, tt)
 
-  from_fine : (m : ℕ) (xs : List Text) → Fine (locals_from m xs)
-  from_fine m [] = tt
-  from_fine m (x ∷ xs) = (tt, from_fine (suc m) xs)
+    row_lawful : {w v n k : ℕ} {es : SRow Constant} → parts.RowOf Lawful w v n k es → R es
+    row_lawful (parts.loads l) = (loads_lawful l).0
+    row_lawful (parts.named s e es) = (expr_lawful e, row_lawful es)
+    row_lawful (parts.positional e es) = (operand_lawful e, row_lawful es)
+    row_lawful (parts.wider l es) = row_lawful es
 
-  pub globals_fine : (m : ℕ) (xs : List Text) → m + length xs ≤ globals_count → Fine (globals_from m xs)
+  condition_lawful : {w : ℕ} {c : Option (SlotExpr Constant)} → parts.ConditionOf Lawful w c
+      → ConditionLawful front globals_count c
+  condition_lawful parts.no_condition = tt
+  condition_lawful (parts.condition c) = expr_lawful c
+
+  slots_lawful : (ss : List (Option Slot)) → parts.EachSlot Lawful ss → OfSlots S ss
+  slots_lawful [] h = tt
+  slots_lawful (None ∷ ss) h = (tt, slots_lawful ss h.1)
+  slots_lawful (Some s ∷ ss) h = (h.0, slots_lawful ss h.1)
+
+  targets_lawful : {n : ℕ} {xs : slots.Targets} → parts.TargetsOf Lawful n xs → OfTargets S xs
+  targets_lawful (parts.one_target s) = s
+  targets_lawful (parts.targets {ss = ss} l h) = slots_lawful ss h
+
+  followed_lawful : (a b : SBody Constant) → B a → B b → B (followed a b)
+  followed_lawful slots.end b h k = k
+  followed_lawful (slots.stmt s rest) b h k = (h.0, followed_lawful rest b h.1 k)
+
+  copies_lawful : {n : ℕ} {a b : SBody Constant} → parts.CopiesOf Lawful n a b → B a → B b
+  copies_lawful parts.no_copies h = h
+  copies_lawful (parts.copy s e c) h = ((s, read_lawful e), copies_lawful c h)
+
+  values_lawful : {w n : ℕ} {a b : SBody Constant} → parts.ValuesOf Lawful w n a b → B a → B b
+  values_lawful parts.no_values h = h
+  values_lawful (parts.value s e v) h = ((s, expr_lawful e), values_lawful v h)
+
+  mutual
+    stmt_lawful : {w m c : ℕ} {s : slots.SlotStmt Constant} → parts.StmtOf Lawful w m c s
+        → StmtLawful front globals_count s
+    stmt_lawful (parts.data_part k) = tt
+    stmt_lawful (parts.print_part e) = operand_lawful e
+    stmt_lawful (parts.set_part f xs e) = (targets_lawful xs, expr_lawful e)
+    stmt_lawful (parts.branch_part e a b) = (expr_lawful e, body_lawful a, body_lawful b)
+    stmt_lawful (parts.loop_part f xs e c body other) =
+        (targets_lawful xs, operand_lawful e, condition_lawful c, body_lawful body, body_lawful other)
+    stmt_lawful (parts.capture_part l s body) = (s, body_lawful body)
+    stmt_lawful (parts.run_part f l es) = loads_lawful es
+
+    pub body_lawful : {w m c : ℕ} {b : SBody Constant} → parts.BodyOf Lawful w m c b → B b
+    body_lawful parts.empty = tt
+    body_lawful (parts.alone s) = (stmt_lawful s, tt)
+    body_lawful (parts.after {a = a} {b = b} x y) = followed_lawful a b (body_lawful x) (body_lawful y)
+    body_lawful (parts.scope l c b) = copies_lawful c (body_lawful b)
+    body_lawful (parts.within v b) = values_lawful v (body_lawful b)
+    body_lawful (parts.handed f c) = copies_lawful c ((tt, tt), tt)
+    body_lawful (parts.wide l m k b) = body_lawful b
+
+  pub globals_fine : (m : ℕ) (xs : List Text) → m + length xs ≤ globals_count
+      → trees.Fine Lawful (globals_from m xs)
   globals_fine m [] h = tt
-  globals_fine m (x ∷ xs) h = (omega (arith, h), globals_fine (suc m) xs (omega (arith, h)))
+  globals_fine m (x ∷ xs) h = (omega arith, globals_fine (suc m) xs (omega arith))
 
-  pub bound_fine : (xs : List Text) (m : ℕ) (t : Table) → Fine t → Fine (bound_table xs m t)
-  bound_fine [] m t g = g
-  bound_fine (x ∷ xs) m t g = bound_fine xs (suc m) ((x, local m) ∷ t) (tt, g)
-
-  field_fine : (f : Option LoopField) → E (field_from f)
-  field_fine None = tt
-  field_fine (Some f) = tt
-
-  turned_fine : (b : Bool) (e : SlotExpr Constant) → E e → E (turned_round b e)
-  turned_fine false e h = h
-  turned_fine true e h = (h, tt)
-
-  tested_fine : (t : Option TestId) (es : SRow Constant) → R es → E (tested_by t es)
-  tested_fine None es h = tt
-  tested_fine (Some t) es h = h
-
-  filtered_fine : (f : Option ℕ) (b : Bool) (es : SRow Constant) → R es → E (filtered_by f b es)
-  filtered_fine None b es h = tt
-  filtered_fine (Some f) b es h = h
-
-  form_fine : (f : OperatorForm) (a b : SlotExpr Constant) → E a → E b → E (in_form f a b)
-  form_fine f a b h k = search (arith, rules)
-
-  filled_fine : (ps : List Parameter) (m d : ℕ) (ks : Table) → d + length ps ≤ front → Fine ks → R (filled ps m d ks)
-  filled_fine [] m d ks l h = tt
-  filled_fine (p ∷ ps) (suc m) d ks l h = filled_fine ps m (suc d) ks (omega (arith, l)) h
-  filled_fine (p ∷ ps) zero d ks l h = search (arith, rules, value_fine, slot_fine, filled_fine ps zero)
-
-  some_fine : (ps : List Parameter) (m : ℕ) (xs : List Text) (ks : Table) → Fine ks → R (filled_some ps m xs ks)
-  some_fine [] m xs ks h = tt
-  some_fine (p ∷ ps) (suc m) xs ks h = some_fine ps m xs ks h
-  some_fine (p ∷ ps) zero xs ks h =
-      search (arith, rules, either_of, value_fine, slot_fine, default_pooled, some_fine ps zero xs ks h)
-
-  first_fine : (m : ℕ) (xs : List Text) → R (first_locals m xs)
-  first_fine m [] = tt
-  first_fine m (x ∷ xs) = (tt, first_fine (suc m) xs)
-
-  reads_fine : (t : Table) (xs : List Text) → Fine t → R (reads t xs)
-  reads_fine t [] h = tt
-  reads_fine t (x ∷ xs) h = (read_fine (slot_in x t) (slot_fine t x h), reads_fine t xs h)
-
-  reads_bare : (t : Table) (xs : List Text) → IsBare (reads t xs)
-  reads_bare t [] = tt
-  reads_bare t (x ∷ xs) = through (slot_in x t) (reads_bare t xs)
-    where
-      through : (s : Option Slot) → IsBare (reads t xs) → IsBare (slots.item (read_from s) (reads t xs))
-      through None h = h
-      through (Some s) h = h
-
-  fresh_each : (m : ℕ) (xs : List Text) → OfSlots S (fresh m xs)
-  fresh_each m [] = tt
-  fresh_each m (x ∷ xs) = (tt, fresh_each (suc m) xs)
-
-  fresh_fine : (m : ℕ) (xs : List Text) → OfTargets S (fresh_targets m xs)
-  fresh_fine m xs = search (arith, rules, fresh_each)
-
-  kept_each : (t : Table) (xs : List Text) → Fine t → OfSlots S (kept_slots t xs)
-  kept_each t [] h = tt
-  kept_each t (x ∷ xs) h = (either_of SomeFine (among x xs) None (slot_in x t) tt (slot_fine t x h), kept_each t xs h)
-
-  set_fine : (t : Table) (xs : List Text) → Fine t → OfTargets S (set_targets t xs)
-  set_fine t [] h = tt
-  set_fine t (x ∷ []) h = of_fine t x h
-  set_fine t (x ∷ (y ∷ ys)) h = kept_each t (x ∷ (y ∷ ys)) h
-
-  pub followed_fine : (a b : SBody Constant) → B a → B b → B (followed a b)
-  followed_fine slots.end b h k = k
-  followed_fine (slots.stmt s rest) b h k = (h.0, followed_fine rest b h.1 k)
-
-  pub copied_fine : (p : Place) (t : Table) (m : ℕ) (xs : List Text) (b : SBody Constant) → Fine t → B b
-      → B (copied p t m xs b)
-  copied_fine p t m [] b g k = k
-  copied_fine p t m (x ∷ xs) b g k = ((tt, read_fine (slot_in x t) (slot_fine t x g)), copied_fine p t (suc m) xs b g k)
-
-  handed_fine : (p : Place) (t : Table) (m : ℕ) (xs : List Text) → m + length xs ≤ globals_count → Fine t
-      → B (handed_on p t m xs)
-  handed_fine p t m [] l h = tt
-  handed_fine p t m (x ∷ xs) l h =
-      ((omega (arith, l), read_fine (slot_in x t) (slot_fine t x h)), handed_fine p t (suc m) xs (omega (arith, l)) h)
-
-  abbrev Front : (SRow Constant → SRow Constant) → Type 0
-  Front f = (b : SRow Constant) → R b → R (f b)
+  defaults_fine : (ps : List Parameter) → trees.Defaults Lawful ps
+  defaults_fine [] = tt
+  defaults_fine (p ∷ ps) = (default_pooled p.default, defaults_fine ps)
 
   -- The globals of each chain and the defaults of its macros exist.
   module _ (cenv : CompileEnv) (order : List Namespace)
@@ -196,150 +175,20 @@ module _ (front globals_count : ℕ) (some : 0 < front) where
       (laid : (h : Namespace) → listed h order ≡ true → (f : Expr) (k : Namespace) (m : MacroBody)
       → callee cenv.sources (given cenv.sources h) f ≡ a_macro k m
       → default_index cenv order k m.name + length m.parameters ≤ front) where
-    body_fined : (h : Namespace) (on : Bool) (i : Option ℕ) (es : SRow Constant) → R es
-        → E (invoked_body cenv order h on i es)
-    body_fined h on None es k = tt
-    body_fined h on (Some i) es k = k
-
-    super_fined : (sp : StaticEnv) (p : Option Part) → E (invoked_super cenv order sp p)
-    super_fined sp None = tt
-    super_fined sp (Some p) = search (arith, rules, body_fined, first_fine)
-
-    globals_of_fine : (h : Namespace) → Fine (globals cenv order h)
-    globals_of_fine h = globals_fine (first_slot cenv order h) (names cenv order h) (few h)
-
-    invoked_fined : (c : Callee) (f : Expr) (sp : StaticEnv) (row asides : SRow Constant → SRow Constant) (m : ℕ)
-        (ks : Table)
-        → listed sp.namespace order ≡ true → callee cenv.sources (given cenv.sources sp.namespace) f ≡ c → Fine ks
-        → Front row → Front asides → E (invoked cenv order c sp row asides m ks)
-    invoked_fined c f sp row asides m ks i e h r a =
-        search (arith, rules, filled_fine, sp, super_fined, body_fined, reads_fine, globals_of_fine)
-
-    mutual
-      pub fined : (e : Expr) (sp : StaticEnv) → listed sp.namespace order ≡ true → Fine sp.table
-          → E (resolved cenv order e sp)
-      fined (constant l) sp i t = literal_pooled l
-      fined (name x) sp i t = read_fine (slot_in x sp.table) (slot_fine sp.table x t)
-      fined (group a) sp i t = fined a sp i t
-      fined (list_of ts) sp i t = row_fined ts sp i t slots.none tt
-      fined (map_of ps) sp i t = entries_fined ps sp i t
-      fined (attribute a x) sp i t = search (arith, rules, either_of, field_fine, fined a sp i t)
-      fined (item a b) sp i t = (fined a sp i t, (fined b sp i t, tt))
-      fined (call f ts ps) sp i t =
-          search (arith, rules, invoked_fined, from_fine, row_fined ts sp i t, asides_fined ps sp i t)
-      fined (filter a x ts ps) sp i t =
-          let f = cenv.filters.named x ts ps in
-          let ks = locals_from sp.free (keywords ps) in
-          let rest = filled_some (filter_parameters cenv.filters f) (count ts) (keywords ps) ks in
-          let row = resolved_row cenv order ts sp (resolved_asides cenv order ps sp rest) in
-          filtered_fine f sp.escaping (slots.item (resolved cenv order a sp) row) (
-            fined a sp i t,
-            row_fined ts sp i t (resolved_asides cenv order ps sp rest)
-                (asides_fined ps sp i t rest (some_fine (filter_parameters cenv.filters f) (count ts) (keywords ps) ks
-                (from_fine sp.free (keywords ps)))),
-          )
-      fined (test a m x ts ps) sp i t =
-          search (arith, rules, turned_fine, tested_fine, fined a sp i t, row_fined ts sp i t)
-      fined (unary u a) sp i t = (fined a sp i t, tt)
-      fined (binary b x y) sp i t = search (arith, rules, form_fine, fined x sp i t, fined y sp i t)
-      fined (when c a) sp i t = (fined c sp i t, fined a sp i t, some)
-      fined (choice c a b) sp i t = (fined c sp i t, fined a sp i t, fined b sp i t)
-
-      pub row_fined : (ts : Exprs) (sp : StaticEnv) → listed sp.namespace order ≡ true → Fine sp.table
-          → (b : SRow Constant) → R b → R (resolved_row cenv order ts sp b)
-      row_fined no_exprs sp i t b h = h
-      row_fined (expr a ts) sp i t b h = (fined a sp i t, row_fined ts sp i t b h)
-
-      pub asides_fined : (ps : Pairs) (sp : StaticEnv) → listed sp.namespace order ≡ true → Fine sp.table
-          → (b : SRow Constant) → R b → R (resolved_asides cenv order ps sp b)
-      asides_fined no_pairs sp i t b h = h
-      asides_fined (pair x a ps) sp i t b h = (fined a sp i t, asides_fined ps (grown sp) i t b h)
-
-      entries_fined : (ps : Pairs) (sp : StaticEnv) → listed sp.namespace order ≡ true → Fine sp.table
-          → R (resolved_entries cenv order ps sp)
-      entries_fined no_pairs sp i t = tt
-      entries_fined (pair x a ps) sp i t = (tt, (fined a sp i t, entries_fined ps sp i t))
-
-    condition_fined : (c : Option Expr) (sp : StaticEnv) → listed sp.namespace order ≡ true → Fine sp.table
-        → ConditionLawful front globals_count (resolved_condition cenv order c sp)
-    condition_fined None sp i t = tt
-    condition_fined (Some c) sp i t = fined c sp i t
-
-    filters_fined : (fs : List FilterCall) (sp : StaticEnv) (e : SlotExpr Constant) → listed sp.namespace order ≡ true
-        → Fine sp.table → E e → E (resolved_filters cenv order fs sp e)
-    filters_fined [] sp e i t h = h
-    filters_fined (f ∷ fs) sp e i t h =
-        search (arith, rules, filters_fined fs sp, filtered_fine, row_fined, asides_fined, some_fine, from_fine)
-
-    values_fined : (ps : Pairs) (sp : StaticEnv) (line : ℕ) (b : SBody Constant) → listed sp.namespace order ≡ true
-        → Fine sp.table → B b → B (resolved_values cenv order ps sp line b)
-    values_fined no_pairs sp line b i t h = h
-    values_fined (pair x e ps) sp line b i t h = ((tt, fined e sp i t), values_fined ps (grown sp) line b i t h)
-
-    placed_fined : (sp : StaticEnv) (i : Option ℕ) (x : Text) (t : Table) → Fine t → B (placed_body cenv order sp i x t)
-    placed_fined sp None x t h = (tt, tt)
-    placed_fined sp (Some i) x t h = search (arith, rules, reads_fine, reads_bare)
-
-    seen_fine : (b : Bool) (t : Table) → Fine t → Fine (if b then t else [])
-    seen_fine true t h = h
-    seen_fine false t h = tt
-
-    include_fined : (sp : StaticEnv) (line : ℕ) (m : Text) (missing c : Bool) (b : Bool) → Fine sp.table
-        → B (if b then left_out sp line missing else followed
-        (handed_on (place sp line) (if c then sp.table else []) (first_slot cenv order (a_chain m))
-        (names cenv order (a_chain m))) (slots.stmt (run (unit cenv order (of_chain m)) slots.none) slots.end))
-    include_fined sp line m missing c b t = search (arith, rules, followed_fine, sp, handed_fine, seen_fine)
-
-    pub scope_fined : (b : Body) (sp : StaticEnv) → Fine sp.table
-        → B (resolved_body cenv order b (bound_all (set_in b) sp))
-        → B (scoped (set_in b) sp (resolved_body cenv order b))
-    scope_fined b sp t h =
-        copied_fine (place sp 1) sp.table sp.free (set_in b) (resolved_body cenv order b (bound_all (set_in b) sp)) t h
-
-    mutual
-      pub stmt_fined : (s : Stmt) (sp : StaticEnv) → listed sp.namespace order ≡ true → Fine sp.table
-          → B (resolved_stmt cenv order s sp)
-      stmt_fined (data_of x) sp i t = (tt, tt)
-      stmt_fined (print line e) sp i t = (fined e sp i t, tt)
-      stmt_fined (choose bs other) sp i t =
-          choice_fined bs sp i t (resolved_body cenv order other sp) (all_fined other sp i t)
-      stmt_fined (for_each line xs e c body other) sp i t =
-          let inner = bound_all xs sp in
-          let ft = bound_fine xs sp.free sp.table t in (
-            (
-              fresh_fine sp.free xs,
-              fined e sp i t,
-              condition_fined c inner i ft,
-              scope_fined body inner ft (all_fined body (bound_all (set_in body) inner) i
-                  (bound_fine (set_in body) (sp.free + length xs) (bound_table xs sp.free sp.table) ft)),
-              all_fined other sp i t,
-            ),
-            tt,
-          )
-      stmt_fined (set line xs e) sp i t = ((set_fine sp.table xs t, fined e sp i t), tt)
-      stmt_fined (set_block line x body) sp i t =
-          search (arith, rules, of_fine, scope_fined, all_fined body, bound_fine)
-      stmt_fined (with_values line ps body) sp i t =
-          search (arith, rules, bound_fine, values_fined, scope_fined, all_fined body)
-      stmt_fined (filter_block line fs body) sp i t =
-          search (arith, rules, scope_fined, all_fined body, bound_fine, filters_fined)
-      stmt_fined (autoescape line on body) sp i t = search (arith, rules, scope_fined, all_fined body, bound_fine)
-      stmt_fined (include line m missing with_context) sp i t =
-          include_fined sp line m missing with_context (is_none (cenv.sources m)) t
-      stmt_fined (block line x is required body) sp i t =
-          search (arith, rules, placed_fined, either_of, globals_of_fine)
-      stmt_fined s sp i t = tt
-
-      pub all_fined : (b : Body) (sp : StaticEnv) → listed sp.namespace order ≡ true → Fine sp.table
-          → B (resolved_body cenv order b sp)
-      all_fined end sp i t = tt
-      all_fined (stmt s rest) sp i t = search (arith, rules, followed_fine, stmt_fined s sp i t, all_fined rest sp i t)
-
-      choice_fined : (bs : Branches) (sp : StaticEnv) → listed sp.namespace order ≡ true → Fine sp.table
-          → (other : SBody Constant) → B other → B (resolved_choice cenv order bs sp other)
-      choice_fined no_branches sp i t other h = h
-      choice_fined (branch line c body rest) sp i t other h =
-          ((fined c sp i t, all_fined body sp i t, choice_fined rest sp i t other h), tt)
+    pub meets : (n z : ℕ) → trees.Meets Lawful n z cenv order (λ h. listed h order ≡ true)
+    meets n z = record {
+      first = tt;
+      locals = λ i l. tt;
+      global_slots = λ h i l k. omega (arith, few h);
+      tables = λ h. globals_fine (first_slot cenv order h) (names cenv order h) (few h);
+      undefined = some;
+      literals = λ l b. literal_pooled l;
+      macros = λ h i f k m e. (tt, λ j l g. omega (arith, laid h i f k m e));
+      blocks = λ h k x. tt;
+      parameters = λ h x i l. tt;
+      filters = λ h k f. (tt, defaults_fine (filter_parameters cenv.filters f));
+      name_counts = λ h k l. tt;
+    }
 
 -- ---- the routines of an order of chains and libraries
 
@@ -457,44 +306,36 @@ module _ (cenv : CompileEnv) (order : List Namespace) where
   abbrev L : SBody Constant → Type 0
   L = BodyLawful front_count (count_globals cenv order order)
 
-  at_top : (h : Namespace) → Fine front_count (count_globals cenv order order) some_front (globals cenv order h)
-  at_top h = search (arith, rules, globals_fine, some_front, few_globals)
-
   module _ (ordered : InOrder cenv.sources order) where
-    body_lawful : (b : Body) (sp : StaticEnv) → listed sp.namespace order ≡ true
-        → Fine front_count (count_globals cenv order order) some_front sp.table → L (resolved_body cenv order b sp)
-    body_lawful b sp i t = search (arith, rules, all_fined, some_front, few_globals, laid_defaults)
+    abbrev Standing : Namespace → Type 0
+    Standing h = listed h order ≡ true
 
-    sets_lawful : (h : Namespace) → listed h order ≡ true → (b : Body) (t : Text)
-        → L (resolved_sets cenv order b (top_senv cenv order h t))
-    sets_lawful h i end t = tt
-    sets_lawful h i (stmt s rest) t =
-        let sp = top_senv cenv order h t in
-        let left = resolved_sets cenv order rest sp in
-        let own = stmt_fined front_count (count_globals cenv order order) some_front cenv order few_globals
-        (laid_defaults ordered) s sp i (at_top h) in
-        let lawful = sets_lawful h i rest t in
-        either_of L (is_set s) (followed (resolved_stmt cenv order s sp) left) left
-        (followed_fine front_count (count_globals cenv order order) some_front (resolved_stmt cenv order s sp) left own
-        lawful) lawful
+    abbrev Demands : parts.Parts
+    Demands = Lawful front_count (count_globals cenv order order) some_front
+
+    standing_meets : (n z : ℕ) → trees.Meets Demands n z cenv order Standing
+    standing_meets =
+        meets front_count (count_globals cenv order order) some_front cenv order few_globals (laid_defaults ordered)
 
     chain_lawful : (h : Namespace) → listed h order ≡ true → (ts : List Template) → L (resolved_chain cenv order h ts)
-    chain_lawful h i [] = tt
-    chain_lawful h i (t ∷ []) = body_lawful t.body (top_senv cenv order h t.name) i (at_top h)
-    chain_lawful h i (t ∷ u ∷ us) =
-        followed_fine front_count (count_globals cenv order order) some_front
-        (resolved_sets cenv order t.body (top_senv cenv order h t.name)) (resolved_chain cenv order h (u ∷ us))
-        (sets_lawful h i t.body t.name) (chain_lawful h i (u ∷ us))
+    chain_lawful h i ts =
+        body_lawful front_count (count_globals cenv order order) some_front
+        (trees.chain_parts Demands cenv order Standing standing_meets h ts i (λ j l. tt))
 
     abbrev Good : Routine Constant → Type 0
     Good r = RoutineLawful front_count (count_globals cenv order order) r
 
-    -- The routine of a body with parameters, in a scope of its own, is lawful.
+    -- The routine of a body with parameters at the top of a template is lawful.
     routine_lawful : (ps : List Text) (b : Body) (sp : StaticEnv) → listed sp.namespace order ≡ true
-        → Fine front_count (count_globals cenv order order) some_front sp.table
-        → Good (resolved_routine cenv order ps b sp)
-    routine_lawful ps b sp i t =
-        search (arith, rules, bound_fine, some_front, scope_fined, few_globals, laid_defaults, body_lawful)
+        → trees.Fine Demands sp.table → Good (resolved_routine cenv order ps b sp)
+    routine_lawful ps b sp i t = record {
+      body = body_lawful front_count (count_globals cenv order order) some_front
+          (trees.routine_parts Demands cenv order Standing standing_meets ps b sp i t (λ j l. tt));
+      locals = omega arith;
+    }
+
+    at_top : (h : Namespace) → trees.Fine Demands (globals cenv order h)
+    at_top h = (standing_meets 0 0).tables h
 
     macros_lawful : (h : Namespace) → listed h order ≡ true → (ms : List MacroBody)
         → AllByRecursion Good (map (macro_routine cenv order h) ms)

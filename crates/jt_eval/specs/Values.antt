@@ -1,13 +1,14 @@
 -- The values of literals, names and captured texts, and the printed texts of values.
-use Rattle.std.specs.Prelude.{Bool, true, false, [], Option, Some, None, unwrap_or, if◌then◌else◌}
+use Rattle.std.specs.Prelude.{Bool, true, false, [], Option, Some, None, unwrap_or, if◌then◌else◌, Result, Ok, Err}
 use Rattle.jt_value.specs.Tree as tree
 use Rattle.jt_value.specs.Tree.{Tree}
 use Rattle.jt_value.specs.Pairs.{Pairs, look}
+use Rattle.jt_value.specs.declared.fault.Fault.{Fault}
 use Rattle.jt_value.specs.declared.fault.Fault.TheVariants as faults
 use Rattle.jt_escape.specs.Escaping.{escaped}
 use Rattle.jt_ast.specs.Expressions as trees
 use Rattle.jt_ast.specs.Expressions.{Literal, Text}
-use Rattle.jt_eval.specs.Eval.{Eval, gives, fails}
+use Rattle.jt_eval.specs.Eval.{Eval, gives, fails, bind, checked}
 
 abbrev pub literal : Literal → Tree
 literal (trees.number n) = tree.number n
@@ -27,6 +28,18 @@ as_value false s = tree.text s
 abbrev pub bytes_of : Tree → Text
 bytes_of (tree.text s) = s
 bytes_of t = []
+
+-- ---- Required values, in strict templates
+
+-- The value. An undefined value is the fault Undefined.
+abbrev pub defined : Tree → Result Tree Fault
+defined tree.undefined = Err faults.Undefined
+defined v = Ok v
+
+-- The outcome, which must be a defined value if the flag is true.
+abbrev pub required_if : Bool → Eval Tree → Eval Tree
+required_if false g = g
+required_if true g = bind g (λ v. checked (defined v))
 
 -- ---- The printed text: if escaping is on, all but markup is escaped. Lists and maps have no text
 

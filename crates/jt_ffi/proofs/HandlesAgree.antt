@@ -14,9 +14,10 @@ use Rattle.jt_ffi.specs.Handles.{CompilesFrom, CompilesHeld, CompilesInto, Expla
 use Rattle.jt_ffi.specs.Handles.{HoldsContext, HoldsImage, HoldsLibrary}
 use Rattle.jt_ffi.specs.Handles.{HoldsTemplate, ReportsKept, RunsAndKeeps, RunsFor, RunsHeld, SavesHeld}
 use Rattle.jt_ffi.specs.HostTemplates.{AreTexts, sources_in, total}
+use Rattle.jt_ffi.specs.Needs.{NeedsFrom, NeedsHeld}
 use Rattle.jt_ffi.specs.declared.answer.Answer.{Answer}
 use Rattle.jt_ffi.specs.declared.local.Local.{Local}
-use Rattle.jt_ffi.specs.declared.local.Local.TheVariants.{Context, Outcome}
+use Rattle.jt_ffi.specs.declared.local.Local.TheVariants.{Context, Outcome, Run}
 use Rattle.jt_ffi.specs.declared.shared.Shared.{Shared}
 use Rattle.jt_ffi.specs.declared.shared.Shared.TheVariants.{Image, Library}
 use Rattle.jt_ffi.specs.declared.templates.Lengths.{Lengths}
@@ -36,6 +37,7 @@ runs_bytes i c k (Context x) b image context (Err (ffi_error.Call call_error.NoM
 runs_bytes i c k (Context x) b image context (Err (ffi_error.Call e)) run = absurd run
 runs_bytes i c k (Context x) b image context (Err e) run = absurd run
 runs_bytes i c k (Outcome o) b image context r run = absurd context
+runs_bytes i c k (Run o) b image context r run = absurd context
 
 -- The run of a compiled code for a context is a rendering of the entry.
 renders_code : (ns : List Lengths) (texts entry : List ℕ) (o : Options) (c : List ℕ) (k : Code) (x : Local) (b : Budget)
@@ -54,6 +56,7 @@ renders_code ns texts entry o c k (Context x) b given compiled context (Err (ffi
 renders_code ns texts entry o c k (Context x) b given compiled context (Err (ffi_error.Call e)) run = absurd run
 renders_code ns texts entry o c k (Context x) b given compiled context (Err e) run = absurd run
 renders_code ns texts entry o c k (Outcome h) b given compiled context r run = absurd context
+renders_code ns texts entry o c k (Run h) b given compiled context r run = absurd context
 
 -- The result of a run over handles is one of the bytes, also if memory runs out.
 runs_held : (image : Option Shared) (held : Option Local) (b : Budget) (i c : List ℕ) → HoldsImage i image
@@ -181,6 +184,24 @@ pub answers_explain : (library : Option Shared) (ns : List Lengths) (texts entry
     → AnswersExplained (Explains ns texts entry o) old new a
 answers_explain library ns texts entry o holds old new a h =
     (h.0, explains_held library ns texts entry o holds h.0 h.1, h.2)
+
+-- ---- needs
+
+needs_held : (library : Option Shared) (ns : List Lengths) (texts entry : List ℕ) (o : Options)
+    → HoldsLibrary ns texts library
+    → (r : CallResult) → NeedsHeld library entry o r → NeedsFrom (sources_in ns texts) entry o r
+needs_held (Some (Library t)) ns texts entry o holds r h =
+    subst (λ (sources : List ℕ → Option (List ℕ)). NeedsFrom sources entry o r) (λ j name. holds.2 name j) h
+needs_held (Some (Image p)) ns texts entry o holds r h = absurd holds
+needs_held None ns texts entry o holds r h = absurd holds
+
+-- The needs of a template of a held library are those of the sources that bytes spell.
+pub answers_needs : (library : Option Shared) (ns : List Lengths) (texts entry : List ℕ) (o : Options)
+    → HoldsLibrary ns texts library
+    → (old new : List ℕ) (a : Answer) → Answers (NeedsHeld library entry o) old new a
+    → Answers (NeedsFrom (sources_in ns texts) entry o) old new a
+answers_needs library ns texts entry o holds old new a h =
+    (h.0, needs_held library ns texts entry o holds h.0 h.1, h.2)
 
 -- ---- bytes of images
 

@@ -3,3 +3,5 @@ pub mod TemplateTables
 mod HandleKinds
 mod HandleWalks
 pub mod CallErrors
+pub mod EachAddsUp
+pub mod SlicesAgree

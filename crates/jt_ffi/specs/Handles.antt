@@ -19,7 +19,7 @@ use Rattle.jt_ffi.specs.Calls.{Compiles, ForText, IsGiven}
 use Rattle.jt_ffi.specs.HostTemplates.{IsUnpacked, sources_in}
 use Rattle.jt_ffi.specs.declared.answer.Answer.{Answer}
 use Rattle.jt_ffi.specs.declared.local.Local.{Local}
-use Rattle.jt_ffi.specs.declared.local.Local.TheVariants.{Context, Outcome}
+use Rattle.jt_ffi.specs.declared.local.Local.TheVariants.{Context, Outcome, Run}
 use Rattle.jt_ffi.specs.declared.shared.Shared.{Shared}
 use Rattle.jt_ffi.specs.declared.shared.Shared.TheVariants.{Image, Library}
 use Rattle.jt_ffi.specs.declared.templates.Lengths.{Lengths}
@@ -51,6 +51,7 @@ HoldsTemplate sources entry options None = ⊥
 abbrev pub HoldsContext : List ℕ → Option Local → Type 0
 HoldsContext bytes (Some (Context context)) = IsContext bytes (pairs_of context)
 HoldsContext bytes (Some (Outcome outcome)) = ⊥
+HoldsContext bytes (Some (Run run)) = ⊥
 HoldsContext bytes None = ⊥
 
 -- Both are one image, or one library.
@@ -165,6 +166,7 @@ RunsFor code (Context context) b (Ok bytes) =
 RunsFor code (Context context) b (Err (ffi_error.Call e)) = RunsTo code (pairs_of context) b (Err e)
 RunsFor code (Context context) b (Err e) = ⊥
 RunsFor code (Outcome outcome) b r = r ≡ Err ffi_error.NotHeld
+RunsFor code (Run run) b r = r ≡ Err ffi_error.NotHeld
 
 -- The image that is held runs for the context that is held.
 abbrev pub RunsHeld : Option Shared → Option Local → Budget → CallResult → Type 0
@@ -188,10 +190,11 @@ ReportsKept r held old new answer =
     ((held ≡ Some (Outcome r)) × Reports r old new answer)
     ⊎ ((held ≡ None) × Reports (Err (ffi_error.Call call_error.NoMemory)) old new answer)
 
--- The outcome that is held is reported. A context is no outcome.
+-- The outcome that is held is reported. A context is no outcome, and neither is a run.
 abbrev pub ReportsHeld : Local → List ℕ → List ℕ → Answer → Type 0
 ReportsHeld (Outcome outcome) old new answer = Reports outcome old new answer
 ReportsHeld (Context context) old new answer = Reports (Err ffi_error.NotHeld) old new answer
+ReportsHeld (Run run) old new answer = Reports (Err ffi_error.NotHeld) old new answer
 
 abbrev pub ReportsOutcome : Option Local → List ℕ → List ℕ → Answer → Type 0
 ReportsOutcome (Some held) old new answer = ReportsHeld held old new answer

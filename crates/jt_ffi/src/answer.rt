@@ -3,9 +3,11 @@ ghost use Rattle.std.specs.Prelude.{◌≡◌};
 ghost use Rattle.jt_ffi.specs.Answers.{IsAnswer, IsExplanationAnswer, Reports, ReportsError};
 ghost use Rattle.jt_ffi.specs.Answers.{ReportsExplanation, ReportsFailure, fault_number};
 ghost use Rattle.jt_ffi.specs.Answers.{line_at, put as put_in, spent_number};
+ghost use Rattle.jt_ffi.specs.Slices.{ReportsEnd};
+ghost use Rattle.jt_machine.specs.View.{outcome_view};
 
 use crate::error::FfiError;
-use jt_host::{CallError, Explanation, Fault, Spent, TagPlace};
+use jt_host::{CallError, Explanation, Fault, Outcome, Spent, TagPlace};
 use std::alloc::Global;
 
 /// The end of a call, and the length of its result, whether or not the buffer holds it.
@@ -17,7 +19,7 @@ pub struct Answer {
     /// The details of the status, or 0:
     /// - of a fault its number, 2 for F2;
     /// - of a spent budget 1 fuel, 2 depth, 3 output, 4 size, 5 nesting;
-    /// - of misuse 1 lengths, 2 not text, 3 not held;
+    /// - of misuse 1 lengths, 2 not text, 3 not held, 4 not ended;
     /// - of an explanation the number of the refusal, 3 for P3.
     pub code: u32,
     /// The line of the tag of a fault or of an explained refusal, counted from 1; 0 if the place is
@@ -82,6 +84,21 @@ fn line_of(place: &Option<TagPlace>) -> u32
     match place {
         Some(place) => place.line,
         None => 0,
+    }
+}
+
+/// Writes the outcome of a run to the buffer and returns the answer.
+pub(crate) fn write_outcome(out: &mut [u8], outcome: &Outcome) -> Answer
+    ensures { ReportsEnd (outcome_view outcome.now) out.old out.new result }
+{
+    match outcome {
+        Outcome::Text(text) => write_answer(out, text.as_bytes(), 0, 0, 0),
+        Outcome::Fault(fault, Some(place)) => {
+            let (name, line) = (place.template.as_bytes(), place.line);
+            write_answer(out, name, 1, number_of_fault(*fault), line)
+        }
+        Outcome::Fault(fault, None) => write_answer(out, b"", 1, number_of_fault(*fault), 0),
+        Outcome::Spent(spent) => write_answer(out, b"", 4, number_of_spent(*spent), 0),
     }
 }
 

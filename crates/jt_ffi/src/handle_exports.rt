@@ -6,6 +6,7 @@
 ghost use Rattle.std.specs.Prelude.{◌≡◌, ◌≢◌, ℕ, List, None};
 ghost use Rattle.jt_host.specs.declared.Options.{Options};
 ghost use Rattle.jt_ffi.specs.Answers.{Answers, AnswersExplained};
+ghost use Rattle.jt_ffi.specs.Batches.{AnswersEach, RunsNext};
 ghost use Rattle.jt_ffi.specs.Calls.{Compiles, Explains, IsGiven, Renders, Runs};
 ghost use Rattle.jt_ffi.specs.Handles.{AreSame, CompilesHeld, CompilesInto, ExplainsHeld};
 ghost use Rattle.jt_ffi.specs.Handles.{HoldsContext, IsShareStatus};
@@ -13,9 +14,11 @@ ghost use Rattle.jt_ffi.specs.Handles.{HoldsImage, HoldsLibrary, HoldsTemplate, 
 ghost use Rattle.jt_ffi.specs.Handles.{LoadsImage, LoadsLibrary, ReportsOutcome, RunsAndKeeps};
 ghost use Rattle.jt_ffi.specs.Handles.{SavesHeld};
 ghost use Rattle.jt_ffi.specs.HostTemplates.{sources_in};
+ghost use Rattle.jt_ffi.specs.Needs.{NeedsFrom, NeedsHeld};
 ghost use Rattle.jt_ffi.specs.Plain.{budget_of, options_of};
 
 use crate::answer::{Answer, write_explanation, write_result};
+use crate::batches::{Batch, write_each};
 use crate::error::FfiError;
 use crate::explaining::explain_held;
 use crate::held::{
@@ -23,6 +26,7 @@ use crate::held::{
     save_held, share_held,
 };
 use crate::local_handle::LocalHandle;
+use crate::needs::list_held;
 use crate::repr::{FfiBudget, FfiOptions};
 use crate::shared_handle::SharedHandle;
 use crate::templates::Lengths;
@@ -98,6 +102,37 @@ pub extern "C" fn jt_library_explain(
     let outcome = explain_held(alloc, &taken, entry, options.options());
     library.put_back(taken);
     write_explanation(alloc, out, &outcome)
+}
+
+/// Writes what the template `entry` of a library needs: a line `name ..`, `template ..` or
+/// `missing ..` for each name of a context that its image reads or binds, each template that it is
+/// compiled from, and each missing one that it includes.
+///
+/// The entry compiles to the same code as long as these templates stay the same and the missing
+/// ones stay missing.
+#[unsafe(no_mangle)]
+pub extern "C" fn jt_library_needs(
+    alloc: Global,
+    library: &mut SharedHandle,
+    entry: &[u8],
+    options: FfiOptions,
+    out: &mut [u8],
+) -> Answer
+    ensures library { library.new.held ≡ library.old.held }
+    // The result is that of the held library.
+    ensures answer { Answers (NeedsHeld library.old.held entry.now (options_of options)) out.old
+        out.new result }
+    // The needs are those of the sources that the library was loaded from, and so is the reason of
+    // a refusal.
+    ensures sources { (lengths : List Lengths) (texts : List ℕ)
+        → HoldsLibrary lengths texts library.old.held
+        → Answers (NeedsFrom (sources_in lengths texts) entry.now (options_of options)) out.old
+        out.new result }
+{
+    let kept = library.take(alloc);
+    let outcome = list_held(alloc, &kept, entry, options.options());
+    library.put_back(kept);
+    write_result(alloc, out, &outcome)
 }
 
 /// Reads and verifies an image into a handle, and writes nothing, or the reason why the handle
@@ -186,6 +221,39 @@ pub extern "C" fn jt_image_run(
     image.put_back(held_image);
     context.put_back(held_context);
     keep_outcome(alloc, ended, outcome, out)
+}
+
+/// Runs an image for many contexts under a budget, each read from its bytes. `contexts` holds the
+/// bytes one after another, `lengths` their lengths. Writes the results one after another to the
+/// buffer, and their answers to `answers`, as far as there is room. If a result does not fit, it is
+/// held by `outcome`, and its answer is the last one. Returns the number of answers.
+#[unsafe(no_mangle)]
+pub extern "C" fn jt_image_run_each(
+    alloc: Global,
+    image: &mut SharedHandle,
+    contexts: &[u8],
+    lengths: &[u64],
+    budget: FfiBudget,
+    outcome: &mut LocalHandle,
+    answers: &mut [Answer],
+    out: &mut [u8],
+) -> usize
+    ensures image { image.new.held ≡ image.old.held }
+    // Each result is that of a run for its context alone.
+    ensures each { AnswersEach (RunsNext image.old.held (budget_of budget)) lengths.now contexts.now
+        answers.old answers.new out.old out.new outcome.new.held result }
+{
+    drop(outcome.take(alloc));
+    let held = image.take(alloc);
+    let batch = Batch {
+        image: &held,
+        contexts,
+        lengths,
+        budget: budget.budget(),
+    };
+    let count = write_each(alloc, &batch, outcome, answers, out);
+    image.put_back(held);
+    count
 }
 
 /// Writes an outcome to the buffer. The answer is that of the run with this buffer.

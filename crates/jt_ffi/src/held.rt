@@ -179,7 +179,7 @@ pub(crate) fn run_held(
 }
 
 /// Runs `image`, if that is an image, for `context`, if that is a context.
-fn run_shared(
+pub(crate) fn run_shared(
     alloc: Global,
     image: &Shared,
     context: &Local,
@@ -204,7 +204,7 @@ fn run_for(
 {
     match context {
         Local::Context(pairs) => Ok(run_verified(alloc, verified, pairs, budget)?.into_bytes()),
-        Local::Outcome(_) => Err(FfiError::NotHeld),
+        Local::Outcome(_) | Local::Run(_) => Err(FfiError::NotHeld),
     }
 }
 
@@ -245,6 +245,6 @@ pub(crate) fn report_held(alloc: Global, out: &mut [u8], held: &Local) -> Answer
 {
     match held {
         Local::Outcome(outcome) => write_result(alloc, out, outcome),
-        Local::Context(_) => write_result(alloc, out, &Err(FfiError::NotHeld)),
+        Local::Context(_) | Local::Run(_) => write_result(alloc, out, &Err(FfiError::NotHeld)),
     }
 }

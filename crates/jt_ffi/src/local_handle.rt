@@ -1,4 +1,4 @@
-//! Defines handles of contexts and outcomes.
+//! Defines handles of contexts, outcomes and runs in slices.
 ghost use Rattle.std.specs.Prelude.{◌≡◌, ◌≢◌, None, Some, Option, is_some, option_map};
 ghost use Rattle.jt_ffi.specs.Owning.{held_coded};
 ghost use Rattle.jt_ffi.specs.declared.local.Local.{Local};
@@ -9,8 +9,8 @@ use crate::parts::Parts;
 use std::alloc::Global;
 use std::marker::Model;
 
-/// A handle of a context or an outcome, or of nothing. The caller provides its memory, which is
-/// zero at first, and changes neither field.
+/// A handle of a context, an outcome or a run in slices, or of nothing. The caller provides its
+/// memory, which is zero at first, and changes neither field.
 #[repr(C)]
 pub struct LocalHandle {
     at: *mut u8,

@@ -1,8 +1,9 @@
-//! Defines options and budgets as other languages pass them.
+//! Defines options, budgets and what runs use as other languages pass them.
 ghost use Rattle.std.specs.Prelude.{◌≡◌};
-ghost use Rattle.jt_ffi.specs.Plain.{budget_of, options_of};
+ghost use Rattle.jt_ffi.specs.Plain.{budget_of, options_of, used_of};
+ghost use Rattle.jt_machine.specs.Metering.{nothing_used};
 
-use jt_host::{Budget, Options};
+use jt_host::{Budget, Options, Used};
 
 /// The options under which templates are read: 0 is off, any other number on.
 #[repr(C)]
@@ -12,6 +13,7 @@ pub struct FfiOptions {
     pub lstrip_blocks: u8,
     pub keep_trailing_newline: u8,
     pub autoescape: u8,
+    pub strict: u8,
 }
 
 impl FfiOptions {
@@ -24,6 +26,7 @@ impl FfiOptions {
             lstrip_blocks: self.lstrip_blocks != 0,
             keep_trailing_newline: self.keep_trailing_newline != 0,
             autoescape: self.autoescape != 0,
+            strict: self.strict != 0,
         }
     }
 }
@@ -55,6 +58,42 @@ impl FfiBudget {
             output: self.output,
             size: self.size,
             nesting: self.nesting,
+        }
+    }
+}
+
+/// The resources that a run in slices has used.
+#[repr(C)]
+#[derive(Clone, Copy)]
+pub struct FfiUsed {
+    /// The sum of the costs of the executed instructions.
+    pub fuel: u64,
+    /// The number of bytes that were written to output buffers, captures included.
+    pub output: u64,
+    /// The greatest number of calls that were open at one time.
+    pub depth: u32,
+}
+
+impl FfiUsed {
+    /// Returns the use of a run as other languages take it.
+    pub(crate) fn of(used: Used) -> FfiUsed
+        ensures { result ≡ used_of used }
+    {
+        FfiUsed {
+            fuel: used.fuel,
+            output: used.output,
+            depth: used.depth,
+        }
+    }
+
+    /// Returns the use of no run.
+    pub(crate) fn nothing() -> FfiUsed
+        ensures { result ≡ used_of nothing_used }
+    {
+        FfiUsed {
+            fuel: 0,
+            output: 0,
+            depth: 0,
         }
     }
 }

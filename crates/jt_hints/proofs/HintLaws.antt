@@ -5,7 +5,7 @@ use Rattle.std.proofs.lemmas.List.{take_rest}
 use Rattle.std.specs.Option.{option_or}
 use Rattle.jt_scan.specs.declared.segment.Token.{Token}
 use Rattle.jt_hints.specs.declared.syntax.SyntaxHint.{SyntaxHint}
-use Rattle.jt_hints.specs.Forms.{Place, after, token_hint, first_hint}
+use Rattle.jt_hints.specs.Forms.{Place, after, token_hint, end_hint, first_hint}
 
 -- The tokens after the first one.
 abbrev pub behind_first : List Token → List Token
@@ -33,6 +33,6 @@ module _ (p : Place) (rest : List Token) (token : Token) (some : 1 ≤ length re
   hint_here hint found =
       sym (at_first ∙ ap (λ o. option_or o (first_hint (after p token) (behind_first rest))) found)
 
-pub no_hint : (p : Place) (rest : List Token) → length rest < 1 → None ≡ first_hint p rest
-no_hint p [] h = refl
-no_hint p (x ∷ rest) h = absurd (omega (arith, h))
+pub hint_at_end : (p : Place) (rest : List Token) → length rest < 1 → end_hint p ≡ first_hint p rest
+hint_at_end p [] h = refl
+hint_at_end p (x ∷ rest) h = absurd (omega (arith, h))

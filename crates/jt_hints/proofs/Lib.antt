@@ -1,2 +1,4 @@
 pub mod EditLaws
 pub mod HintLaws
+pub mod Numerals
+pub mod ReadTexts

@@ -86,10 +86,16 @@ kind_of (t.Name x) = if is_operator_word x.now then before.Operator else before.
 kind_of (t.Sign sign.Pipe) = before.Bar
 kind_of (t.Sign s) = if closes s then before.Operand else before.Operator
 
+-- A name after `|` is that of a filter.
+abbrev pub kind_after : Before → Token → Before
+kind_after before.Bar (t.Name x) = before.Filter
+kind_after b token = kind_of token
+
 abbrev pub ends_operand : Before → Bool
 ends_operand before.Text = true
 ends_operand before.Number = true
 ends_operand before.Operand = true
+ends_operand before.Filter = true
 ends_operand b = false
 
 -- The role of the bracket that a sign opens: `(` and `[` after an operand are a call and an index.
@@ -133,7 +139,7 @@ abbrev pub after : Place → Token → Place
 after p token = record {
   form = p.form;
   brackets = brackets_after p token;
-  before = kind_of token;
+  before = kind_after p.before token;
   compared = is_compared_after p token;
   valued = is_valued_after p token;
 }
@@ -161,9 +167,15 @@ abbrev pub is_group : Option Bracket → Bool
 is_group (Some bracket.Group) = true
 is_group o = false
 
--- A comma in parentheses that hold no arguments, or outside all brackets, makes a tuple.
+abbrev pub is_operator : Before → Bool
+is_operator before.Operator = true
+is_operator b = false
+
+-- A comma follows an expression. In parentheses that hold no arguments, or outside all brackets, it makes a tuple.
 abbrev pub comma_hint : Place → Option SyntaxHint
-comma_hint p = hint_if (is_group (innermost p) || is_at_top p) hint.Tuple
+comma_hint p =
+    if is_operator p.before then Some hint.MissingItem
+    else hint_if (is_group (innermost p) || is_at_top p) hint.Tuple
 
 -- A `=` names an argument in a call, and otherwise it assigns.
 abbrev pub assigns : Option Bracket → Bool → Bool
@@ -171,11 +183,27 @@ assigns None valued = valued
 assigns (Some bracket.Call) valued = false
 assigns (Some b) valued = true
 
-abbrev pub assign_hint : Place → Option SyntaxHint
-assign_hint p = hint_if (assigns (innermost p) p.valued) hint.Assignment
+abbrev pub is_constant : List ℕ → Bool
+is_constant = is_one_of (
+    codes "true" ∷ codes "false" ∷ codes "none" ∷ codes "True" ∷ codes "False" ∷ codes "None" ∷ [])
 
--- A dot before a number: after a number it is a fraction.
+-- A parameter's default is a number, a text or a constant: neither another name, a list nor a map.
+abbrev pub default_hint : List Token → Option SyntaxHint
+default_hint (t.Name x ∷ rest) = hint_if (not (is_constant x.now)) hint.DefaultIsNoConstant
+default_hint (t.Sign sign.LeftBracket ∷ rest) = Some hint.DefaultIsNoConstant
+default_hint (t.Sign sign.LeftBrace ∷ rest) = Some hint.DefaultIsNoConstant
+default_hint rest = None
+
+abbrev pub assign_in : TagForm → Place → List Token → Option SyntaxHint
+assign_in form.Macro p rest = default_hint rest
+assign_in f p rest = hint_if (assigns (innermost p) p.valued) hint.Assignment
+
+abbrev pub assign_hint : Place → List Token → Option SyntaxHint
+assign_hint p rest = assign_in p.form p rest
+
+-- A dot before a dot, and a dot before a number: after a number it is a fraction.
 abbrev pub dot_before : Before → List Token → Option SyntaxHint
+dot_before b (t.Sign sign.Dot ∷ rest) = Some hint.RangeDots
 dot_before before.Number (t.Number n ∷ rest) = Some hint.Fraction
 dot_before b (t.Number n ∷ rest) = Some hint.NumberAfterDot
 dot_before b rest = None
@@ -203,36 +231,138 @@ abbrev pub is_bar : Before → Bool
 is_bar before.Bar = true
 is_bar b = false
 
-abbrev pub is_text : Before → Bool
-is_text before.Text = true
-is_text b = false
+-- The sign that closes a bracket is missing.
+abbrev pub missing : Bracket → SyntaxHint
+missing bracket.Group = hint.MissingParen
+missing bracket.Call = hint.MissingParen
+missing bracket.Index = hint.MissingSquare
+missing bracket.List = hint.MissingSquare
+missing bracket.Map = hint.MissingBrace
+
+abbrev pub is_closed_by : Bracket → Sign → Bool
+is_closed_by bracket.Group sign.RightParen = true
+is_closed_by bracket.Call sign.RightParen = true
+is_closed_by bracket.Index sign.RightBracket = true
+is_closed_by bracket.List sign.RightBracket = true
+is_closed_by bracket.Map sign.RightBrace = true
+is_closed_by b s = false
+
+-- Parentheses without arguments and an index have an expression.
+abbrev pub needs_expression : Bracket → Bool
+needs_expression bracket.Group = true
+needs_expression bracket.Index = true
+needs_expression b = false
+
+abbrev pub close_in : Option Bracket → Before → Sign → Option SyntaxHint
+close_in None b s = Some hint.UnopenedBracket
+close_in (Some inner) b s =
+    if is_closed_by inner s then hint_if (needs_expression inner && is_operator b) hint.MissingExpression
+    else Some (missing inner)
+
+-- A sign that closes a bracket closes the innermost one.
+abbrev pub close_hint : Place → Sign → Option SyntaxHint
+close_hint p s = close_in (innermost p) p.before s
+
+-- A `{` before a `{` or a `%` begins no map, but a tag in a tag.
+abbrev pub brace_hint : List Token → Option SyntaxHint
+brace_hint (t.Sign sign.LeftBrace ∷ rest) = Some hint.NestedTag
+brace_hint (t.Sign sign.Percent ∷ rest) = Some hint.NestedTag
+brace_hint rest = None
+
+-- In a `set` a `==` before the value stands for `=`.
+abbrev pub sets_by_comparison : TagForm → Place → Bool
+sets_by_comparison form.Set p = not p.valued && is_empty p.brackets
+sets_by_comparison f p = false
 
 -- Two comparisons in a row are a chain.
-abbrev pub sign_hint : Place → Sign → List Token → Option SyntaxHint
-sign_hint p sign.Colon rest = colon_hint p
-sign_hint p sign.Comma rest = comma_hint p
-sign_hint p sign.Assign rest = assign_hint p
-sign_hint p sign.Dot rest = dot_hint p rest
-sign_hint p sign.Percent rest = percent_hint p rest
-sign_hint p sign.Times rest = star_hint p
-sign_hint p sign.Power rest = star_hint p
-sign_hint p sign.Pipe rest = hint_if (is_bar p.before) hint.DoubledBar
-sign_hint p s rest = hint_if (p.compared && compares s) hint.ChainedComparison
+abbrev pub compare_hint : Place → Sign → Option SyntaxHint
+compare_hint p sign.Equal =
+    if sets_by_comparison p.form p then Some hint.SetByComparison else hint_if p.compared hint.ChainedComparison
+compare_hint p s = hint_if (p.compared && compares s) hint.ChainedComparison
 
--- The word `for` after an operand, in brackets.
+-- A sign after a filter's name, or after an expression.
+abbrev pub plain_sign_hint : Place → Sign → List Token → Option SyntaxHint
+plain_sign_hint p sign.Colon rest = colon_hint p
+plain_sign_hint p sign.Comma rest = comma_hint p
+plain_sign_hint p sign.Assign rest = assign_hint p rest
+plain_sign_hint p sign.Dot rest = dot_hint p rest
+plain_sign_hint p sign.Percent rest = percent_hint p rest
+plain_sign_hint p sign.Times rest = star_hint p
+plain_sign_hint p sign.Power rest = star_hint p
+plain_sign_hint p sign.LeftBrace rest = brace_hint rest
+plain_sign_hint p sign.RightParen rest = close_hint p sign.RightParen
+plain_sign_hint p sign.RightBracket rest = close_hint p sign.RightBracket
+plain_sign_hint p sign.RightBrace rest = close_hint p sign.RightBrace
+plain_sign_hint p s rest = compare_hint p s
+
+-- A sign after `|` stands where a filter's name belongs.
+abbrev pub bar_hint : Sign → SyntaxHint
+bar_hint sign.Pipe = hint.DoubledBar
+bar_hint s = hint.MissingFilter
+
+abbrev pub sign_hint : Place → Sign → List Token → Option SyntaxHint
+sign_hint p s rest = if is_bar p.before then Some (bar_hint s) else plain_sign_hint p s rest
+
+-- In a list, a map or arguments, items are separated by commas.
+abbrev pub has_items : Option Bracket → Bool
+has_items (Some bracket.Call) = true
+has_items (Some bracket.List) = true
+has_items (Some bracket.Map) = true
+has_items o = false
+
+-- Two values side by side.
+abbrev pub beside_hint : Place → Option SyntaxHint
+beside_hint p =
+    if has_items (innermost p) then Some hint.MissingComma
+    else hint_if (p.valued || not (is_empty p.brackets)) hint.MissingOperator
+
+-- A text after `|`, a filter's name, a text or a number.
+abbrev pub text_after : Before → Place → Option SyntaxHint
+text_after before.Bar p = Some hint.MissingFilter
+text_after before.Filter p = Some hint.ArgumentsWithoutParens
+text_after before.Text p = if has_items (innermost p) then Some hint.MissingComma else Some hint.AdjacentTexts
+text_after before.Number p = beside_hint p
+text_after b p = None
+
+-- A number after `|`, a filter's name, a text or a number.
+abbrev pub number_after : Before → Place → Option SyntaxHint
+number_after before.Bar p = Some hint.MissingFilter
+number_after before.Filter p = Some hint.ArgumentsWithoutParens
+number_after before.Text p = beside_hint p
+number_after before.Number p = beside_hint p
+number_after b p = None
+
+-- A name after a text or a number.
+abbrev pub name_after : Before → Place → Option SyntaxHint
+name_after before.Text p = beside_hint p
+name_after before.Number p = beside_hint p
+name_after b p = None
+
+-- The word `for` after an operand, in brackets, or a name that is no operator after a value.
 abbrev pub name_hint : Place → List ℕ → Option SyntaxHint
 name_hint p x =
-    hint_if ((bytes_eq x (codes "for") && ends_operand p.before) && not (is_empty p.brackets)) hint.Comprehension
+    if (bytes_eq x (codes "for") && ends_operand p.before) && not (is_empty p.brackets) then Some hint.Comprehension
+    else if is_operator_word x then None else name_after p.before p
 
 abbrev pub token_hint : Place → Token → List Token → Option SyntaxHint
 token_hint p (t.Sign s) rest = sign_hint p s rest
 token_hint p (t.Name x) rest = name_hint p x.now
-token_hint p (t.Text x) rest = hint_if (is_text p.before) hint.AdjacentTexts
-token_hint p (t.Number n) rest = None
+token_hint p (t.Text x) rest = text_after p.before p
+token_hint p (t.Number n) rest = number_after p.before p
 
--- The first form that stands in the tokens from a place on.
+-- At the end of a tag a bracket is still open, a filter has no name, or an expression is missing.
+abbrev pub end_in : Option Bracket → Place → Option SyntaxHint
+end_in (Some inner) p = Some (missing inner)
+end_in None p =
+    if is_bar p.before then Some hint.MissingFilter
+    else hint_if (p.valued && is_operator p.before) hint.MissingExpression
+
+abbrev pub end_hint : Place → Option SyntaxHint
+end_hint p = end_in (innermost p) p
+
+-- The first form that stands in the tokens from a place on, or at their end.
 abbrev pub first_hint : Place → List Token → Option SyntaxHint
-first_hint p [] = None
+first_hint p [] = end_hint p
 first_hint p (token ∷ rest) = option_or (token_hint p token rest) (first_hint (after p token) rest)
 
 -- ---- the forms of a statement's tag
@@ -242,6 +372,7 @@ form_of word =
     if is_one_of (codes "if" ∷ codes "elif" ∷ []) word then form.Expression
     else if bytes_eq word (codes "for") then form.Loop
     else if bytes_eq word (codes "set") then form.Set
+    else if bytes_eq word (codes "macro") then form.Macro
     else form.Other
 
 -- Jinja's statements that the language leaves out, and other spellings of `elif`.
@@ -281,10 +412,27 @@ template_hint (t.Text x ∷ []) = None
 template_hint (t.Text x ∷ t.Name word ∷ rest) = hint_if (bytes_eq word.now (codes "if")) hint.ExpressionAsName
 template_hint tokens = Some hint.ExpressionAsName
 
+-- `autoescape` takes one word, true or false.
+abbrev pub autoescape_hint : List Token → Option SyntaxHint
+autoescape_hint (token ∷ []) =
+    hint_if (not (is_name (codes "true") token || is_name (codes "false") token)) hint.AutoescapeValue
+autoescape_hint tokens = Some hint.AutoescapeValue
+
 -- The token exists, and is this name.
 abbrev pub is_name_at : List ℕ → Option Token → Bool
 is_name_at word (Some token) = is_name word token
 is_name_at word None = false
+
+-- After the word `ignore` stands `missing`.
+abbrev pub ignored_hint : List Token → Option SyntaxHint
+ignored_hint tokens =
+    hint_if
+    (is_name_at (codes "ignore") (slice_get tokens 1) && not (is_name_at (codes "missing") (slice_get tokens 2)))
+    hint.IgnoreMissing
+
+-- A template's name, and the words after it.
+abbrev pub include_hint : List Token → Option SyntaxHint
+include_hint tokens = option_or (template_hint tokens) (ignored_hint tokens)
 
 -- The last token, and the one before it.
 abbrev pub last : List Token → Option Token
@@ -311,14 +459,15 @@ target_hint tokens = None
 abbrev pub is_plain_word : List ℕ → Bool
 is_plain_word = is_one_of (
     codes "if" ∷ codes "elif" ∷ codes "endif" ∷ codes "endfor" ∷ codes "endset" ∷ codes "with"
-    ∷ codes "endwith" ∷ codes "filter" ∷ codes "endfilter" ∷ codes "autoescape"
-    ∷ codes "endautoescape" ∷ codes "macro" ∷ codes "endmacro" ∷ codes "block" ∷ codes "endblock"
-    ∷ [])
+    ∷ codes "endwith" ∷ codes "filter" ∷ codes "endfilter" ∷ codes "endautoescape" ∷ codes "macro"
+    ∷ codes "endmacro" ∷ codes "block" ∷ codes "endblock" ∷ [])
 
 abbrev pub head_hint : List ℕ → List Token → Option SyntaxHint
 head_hint word tokens =
     if bytes_eq word (codes "else") then else_hint tokens
-    else if is_one_of (codes "extends" ∷ codes "include" ∷ []) word then template_hint tokens
+    else if bytes_eq word (codes "extends") then template_hint tokens
+    else if bytes_eq word (codes "include") then include_hint tokens
+    else if bytes_eq word (codes "autoescape") then autoescape_hint tokens
     else if is_one_of (codes "import" ∷ codes "from" ∷ []) word then import_hint tokens
     else if bytes_eq word (codes "for") then loop_hint tokens
     else if bytes_eq word (codes "set") then target_hint tokens
@@ -350,6 +499,22 @@ sentence hint.AdjacentTexts = codes "texts side by side are not joined: write ~ 
 sentence hint.Formatting = codes "% does not format texts: join the parts by ~"
 sentence hint.UnquotedKey = codes "a key of a map is a text in quotes, as in {\"a\": 1}"
 sentence hint.EmptyTag = codes "this tag is empty"
+sentence hint.MissingItem = codes "an expression is missing before a comma"
+sentence hint.MissingExpression = codes "an expression is missing: an operator, a bracket or the tag ends without one"
+sentence hint.MissingParen = codes "a ) is missing"
+sentence hint.MissingSquare = codes "a ] is missing"
+sentence hint.MissingBrace = codes "a } is missing"
+sentence hint.UnopenedBracket = codes "a bracket is closed that is not open"
+sentence hint.MissingFilter = codes "the name of a filter is missing after |"
+sentence hint.ArgumentsWithoutParens = codes "a filter's arguments stand in parentheses, as in x|join(\", \")"
+sentence hint.MissingComma = codes "a comma is missing between two items"
+sentence hint.MissingOperator = codes "an operator is missing between two values"
+sentence hint.RangeDots = codes "numbers from a to b - 1 are range(a, b)"
+sentence hint.NestedTag = codes "no tag stands in a tag: write the expression alone"
+sentence hint.SetByComparison = codes "set gives a value by =, and == compares"
+sentence hint.DefaultIsNoConstant = codes "a parameter's default is a constant: a number, a text, true, false or none"
+sentence hint.IgnoreMissing = codes "the words are ignore missing"
+sentence hint.AutoescapeValue = codes "autoescape takes true or false"
 sentence hint.ElseIf = codes "the word is elif"
 sentence hint.Do = codes "set takes the value of an expression, and values are never changed in place"
 sentence hint.Trans = codes "the host passes the translated texts"

@@ -61,11 +61,28 @@ functions =
     ∷ (codes "lipsum", codes "the host passes the text")
     ∷ (codes "namespace", codes "a set in a loop ends with its turn: use filters such as sum, select and map")
     ∷ (codes "ngettext", codes "the host passes the translated texts")
+    ∷ (codes "now", codes "the host passes the time in the context")
     ∷ (codes "_", codes "the host passes the translated texts")
     ∷ []
 
 abbrev pub left_out_function : List ℕ → Option (List ℕ)
 left_out_function name = sentence_in functions name
+
+-- The fields that `loop` has in Jinja, or in other template languages, and not here.
+abbrev pub loop_fields : List (List ℕ × List ℕ)
+loop_fields =
+    (codes "changed", codes "compare with the item before, as in x != loop.previtem")
+    ∷ (codes "counter", codes "the number of a turn is loop.index")
+    ∷ (codes "counter0", codes "the number of a turn, from 0, is loop.index0")
+    ∷ (codes "depth", codes "loops are not recursive: leave it out")
+    ∷ (codes "depth0", codes "loops are not recursive: leave it out")
+    ∷ (codes "idx", codes "the number of a turn is loop.index")
+    ∷ (codes "parentloop", codes "before the inner loop, keep what it needs, as in {% set outer = loop.index %}")
+    ∷ (codes "revcounter", codes "the number of turns that are left is loop.revindex")
+    ∷ []
+
+abbrev pub left_out_loop_field : List ℕ → Option (List ℕ)
+left_out_loop_field name = sentence_in loop_fields name
 
 abbrev pub methods : List (List ℕ × List ℕ)
 methods =
@@ -107,3 +124,19 @@ methods =
 
 abbrev pub left_out_method : List ℕ → Option (List ℕ)
 left_out_method name = sentence_in methods name
+
+-- The characters that other languages, or texts from elsewhere, have in a tag.
+abbrev pub characters : List (List ℕ × List ℕ)
+characters =
+    (codes "!", codes "write not, or != between two values")
+    ∷ (codes "#", codes "a comment is written {# .. #}")
+    ∷ (codes "&", codes "write and")
+    ∷ (codes "/", codes "numbers are whole: // divides and rounds down")
+    ∷ (codes ";", codes "a tag has one statement or expression")
+    ∷ (codes "?", codes "write a if x else b")
+    ∷ (codes "^", codes "the power is **")
+    ∷ (codes "`", codes "a text stands in \" or '")
+    ∷ []
+
+abbrev pub left_out_character : List ℕ → Option (List ℕ)
+left_out_character x = sentence_in characters x

@@ -1,8 +1,11 @@
 pub mod CalledMethods
 pub mod DefinedNames
 pub mod Edits
+pub mod Fitting
 pub mod Forms
+pub mod KnownStatements
 pub mod LeftOut
 pub mod Nesting
 pub mod Positions
+pub mod Strays
 pub mod internal

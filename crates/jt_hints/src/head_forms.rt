@@ -28,6 +28,16 @@ fn template_hint(tokens: &[Token<'_>]) -> Option<SyntaxHint>
     }
 }
 
+/// Returns the hint for a state other than `true` and `false`, given the tokens after `autoescape`.
+fn autoescape_hint(tokens: &[Token<'_>]) -> Option<SyntaxHint>
+    ensures { result ≡ spec.autoescape_hint tokens.now }
+{
+    match tokens {
+        [Token::Name("true" | "false")] => None,
+        _ => Some(SyntaxHint::AutoescapeValue),
+    }
+}
+
 /// Returns whether the token at an index is a name.
 fn is_name_at(tokens: &[Token<'_>], index: usize, name: &str) -> bool
     ensures { result ≡ spec.is_name_at name.now (slice_get tokens.now index) }
@@ -35,6 +45,27 @@ fn is_name_at(tokens: &[Token<'_>], index: usize, name: &str) -> bool
     match tokens.get(index) {
         Some(Token::Name(found)) => *found == name,
         _ => false,
+    }
+}
+
+/// Returns the hint for a word other than `missing` after `ignore`, given the tokens after
+/// `include`.
+fn ignored_hint(tokens: &[Token<'_>]) -> Option<SyntaxHint>
+    ensures { result ≡ spec.ignored_hint tokens.now }
+{
+    if is_name_at(tokens, 1, "ignore") && !is_name_at(tokens, 2, "missing") {
+        return Some(SyntaxHint::IgnoreMissing);
+    }
+    None
+}
+
+/// Returns the hint for an include, given the tokens after `include`.
+fn include_hint(tokens: &[Token<'_>]) -> Option<SyntaxHint>
+    ensures { result ≡ spec.include_hint tokens.now }
+{
+    match template_hint(tokens) {
+        Some(hint) => Some(hint),
+        None => ignored_hint(tokens),
     }
 }
 
@@ -77,7 +108,9 @@ pub(crate) fn head_hint(word: &str, tokens: &[Token<'_>]) -> Option<SyntaxHint>
 {
     match word {
         "else" => else_hint(tokens),
-        "extends" | "include" => template_hint(tokens),
+        "extends" => template_hint(tokens),
+        "include" => include_hint(tokens),
+        "autoescape" => autoescape_hint(tokens),
         "import" | "from" => import_hint(tokens),
         "for" => loop_hint(tokens),
         "set" => target_hint(tokens),

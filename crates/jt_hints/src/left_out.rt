@@ -1,5 +1,5 @@
 //! Looks up what to write in place of Jinja's filters, tests and functions that the
-//! language leaves out, and of the methods of Python's values.
+//! language leaves out, of the methods of Python's values, and of characters that begin no token.
 
 ghost use Rattle.std.specs.Prelude.{◌≡◌, map, option_map};
 ghost use Rattle.jt_hints.specs.LeftOut as table;
@@ -70,7 +70,7 @@ static TESTS: [Row; 10] = [
     ("upper", "compare with the filter, as in x == x|upper"),
 ];
 
-static FUNCTIONS: [Row; 9] = [
+static FUNCTIONS: [Row; 10] = [
     (
         "caller",
         "pass the body as an argument, kept by a set block",
@@ -88,7 +88,39 @@ static FUNCTIONS: [Row; 9] = [
         "a set in a loop ends with its turn: use filters such as sum, select and map",
     ),
     ("ngettext", "the host passes the translated texts"),
+    ("now", "the host passes the time in the context"),
     ("_", "the host passes the translated texts"),
+];
+
+static CHARACTERS: [Row; 8] = [
+    ("!", "write not, or != between two values"),
+    ("#", "a comment is written {# .. #}"),
+    ("&", "write and"),
+    ("/", "numbers are whole: // divides and rounds down"),
+    (";", "a tag has one statement or expression"),
+    ("?", "write a if x else b"),
+    ("^", "the power is **"),
+    ("`", "a text stands in \" or '"),
+];
+
+static LOOP_FIELDS: [Row; 8] = [
+    (
+        "changed",
+        "compare with the item before, as in x != loop.previtem",
+    ),
+    ("counter", "the number of a turn is loop.index"),
+    ("counter0", "the number of a turn, from 0, is loop.index0"),
+    ("depth", "loops are not recursive: leave it out"),
+    ("depth0", "loops are not recursive: leave it out"),
+    ("idx", "the number of a turn is loop.index"),
+    (
+        "parentloop",
+        "before the inner loop, keep what it needs, as in {% set outer = loop.index %}",
+    ),
+    (
+        "revcounter",
+        "the number of turns that are left is loop.revindex",
+    ),
 ];
 
 static METHODS: [Row; 34] = [
@@ -198,10 +230,25 @@ pub fn left_out_function(name: &str) -> Option<&'static str>
     sentence_in(&FUNCTIONS, name)
 }
 
+/// Returns what to write in place of a field that `loop` has in Jinja, or in other template
+/// languages.
+pub fn left_out_loop_field(name: &str) -> Option<&'static str>
+    ensures { option_map (λ x. x.now) result ≡ table.left_out_loop_field name.now }
+{
+    sentence_in(&LOOP_FIELDS, name)
+}
+
 /// Returns what to write in place of a method of Python's texts, lists and maps, or `None` for
 /// another name.
 pub fn left_out_method(name: &str) -> Option<&'static str>
     ensures { option_map (λ s. s.now) result ≡ table.left_out_method name.now }
 {
     sentence_in(&METHODS, name)
+}
+
+/// Returns what to write in place of a character that begins no token, or `None` for another one.
+pub fn left_out_character(character: &str) -> Option<&'static str>
+    ensures { option_map (λ s. s.now) result ≡ table.left_out_character character.now }
+{
+    sentence_in(&CHARACTERS, character)
 }

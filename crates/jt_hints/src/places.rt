@@ -33,6 +33,8 @@ pub enum Before {
     Operand,
     /// `|`
     Bar,
+    /// The name of a filter, after `|`.
+    Filter,
     /// Nothing, an operator, or another sign or word after which an operand may begin.
     Operator,
 }
@@ -46,6 +48,8 @@ pub enum TagForm {
     Loop,
     /// An expression after `=`.
     Set,
+    /// Parameters, each with a constant after its `=`.
+    Macro,
     /// Another form.
     Other,
 }
@@ -108,7 +112,7 @@ fn ends_comparison(sign: Sign) -> bool
     )
 }
 
-/// Returns the kind of a token, for the place after it.
+/// Returns the kind of a token by itself, for the place after it.
 fn kind_of(token: Token<'_>) -> Before
     ensures { result ≡ spec.kind_of token.entry }
 {
@@ -124,11 +128,24 @@ fn kind_of(token: Token<'_>) -> Before
 }
 
 impl Before {
+    /// Returns the kind of a token, for the place after it. A name after `|` is that of a filter.
+    fn after(self, token: Token<'_>) -> Before
+        ensures { result ≡ spec.kind_after self token.entry }
+    {
+        match (self, token) {
+            (Before::Bar, Token::Name(_)) => Before::Filter,
+            _ => kind_of(token),
+        }
+    }
+
     /// Returns whether an operand ends before the place.
     pub(crate) fn ends_operand(self) -> bool
         ensures { result ≡ spec.ends_operand self }
     {
-        matches!(self, Before::Text | Before::Number | Before::Operand)
+        matches!(
+            self,
+            Before::Text | Before::Number | Before::Operand | Before::Filter
+        )
     }
 
     /// Returns the role of the bracket that a sign opens, if it opens one.
@@ -217,7 +234,7 @@ impl Place {
         let compared = self.is_compared_after(token);
         let valued = self.is_valued_after(token);
         self.pass_bracket(token)?;
-        self.before = kind_of(token);
+        self.before = self.before.after(token);
         self.compared = compared;
         self.valued = valued;
         Ok(())

@@ -6,7 +6,7 @@ ghost use Rattle.jt_hints.specs.Forms as spec;
 use crate::places::TagForm;
 use crate::syntax::SyntaxHint;
 
-static PLAIN_WORDS: [&str; 15] = [
+static PLAIN_WORDS: [&str; 14] = [
     "if",
     "elif",
     "endif",
@@ -16,7 +16,6 @@ static PLAIN_WORDS: [&str; 15] = [
     "endwith",
     "filter",
     "endfilter",
-    "autoescape",
     "endautoescape",
     "macro",
     "endmacro",
@@ -58,6 +57,7 @@ pub(crate) fn form_of(word: &str) -> TagForm
         "if" | "elif" => TagForm::Expression,
         "for" => TagForm::Loop,
         "set" => TagForm::Set,
+        "macro" => TagForm::Macro,
         _ => TagForm::Other,
     }
 }

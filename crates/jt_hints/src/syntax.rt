@@ -4,7 +4,7 @@ ghost use Rattle.std.specs.Prelude.{◌≡◌, IfOk};
 ghost use Rattle.jt_hints.specs.Forms as spec;
 
 use crate::head_forms::head_hint;
-use crate::place_forms::token_hint;
+use crate::place_forms::{end_hint, token_hint};
 use crate::places::{Place, TagForm};
 use crate::statement_words::form_of;
 use jt_scan::{TagKind, Token};
@@ -39,6 +39,38 @@ pub enum SyntaxHint {
     UnquotedKey,
     /// `{{ }}`
     EmptyTag,
+    /// `[1,, 2]`
+    MissingItem,
+    /// `{{ 1 + }}`
+    MissingExpression,
+    /// `{{ (a }}`
+    MissingParen,
+    /// `{{ [a }}`
+    MissingSquare,
+    /// `{{ {"a": 1 }}`
+    MissingBrace,
+    /// `{{ a) }}`
+    UnopenedBracket,
+    /// `{{ x| }}`
+    MissingFilter,
+    /// `{{ x|join ", " }}`
+    ArgumentsWithoutParens,
+    /// `[1 2]`
+    MissingComma,
+    /// `{{ 1 2 }}`
+    MissingOperator,
+    /// `a..b`
+    RangeDots,
+    /// `{{ {{ x }} }}`
+    NestedTag,
+    /// `{% set x == 1 %}`
+    SetByComparison,
+    /// `{% macro m(a, b=a) %}`
+    DefaultIsNoConstant,
+    /// `{% include "t" ignore mising %}`
+    IgnoreMissing,
+    /// `{% autoescape on %}`
+    AutoescapeValue,
     /// `{% else if c %}`, `{% elseif c %}` or `{% elsif c %}`
     ElseIf,
     /// `{% do e %}`
@@ -96,6 +128,28 @@ impl SyntaxHint {
             SyntaxHint::Formatting => "% does not format texts: join the parts by ~",
             SyntaxHint::UnquotedKey => "a key of a map is a text in quotes, as in {\"a\": 1}",
             SyntaxHint::EmptyTag => "this tag is empty",
+            SyntaxHint::MissingItem => "an expression is missing before a comma",
+            SyntaxHint::MissingExpression => {
+                "an expression is missing: an operator, a bracket or the tag ends without one"
+            }
+            SyntaxHint::MissingParen => "a ) is missing",
+            SyntaxHint::MissingSquare => "a ] is missing",
+            SyntaxHint::MissingBrace => "a } is missing",
+            SyntaxHint::UnopenedBracket => "a bracket is closed that is not open",
+            SyntaxHint::MissingFilter => "the name of a filter is missing after |",
+            SyntaxHint::ArgumentsWithoutParens => {
+                "a filter's arguments stand in parentheses, as in x|join(\", \")"
+            }
+            SyntaxHint::MissingComma => "a comma is missing between two items",
+            SyntaxHint::MissingOperator => "an operator is missing between two values",
+            SyntaxHint::RangeDots => "numbers from a to b - 1 are range(a, b)",
+            SyntaxHint::NestedTag => "no tag stands in a tag: write the expression alone",
+            SyntaxHint::SetByComparison => "set gives a value by =, and == compares",
+            SyntaxHint::DefaultIsNoConstant => {
+                "a parameter's default is a constant: a number, a text, true, false or none"
+            }
+            SyntaxHint::IgnoreMissing => "the words are ignore missing",
+            SyntaxHint::AutoescapeValue => "autoescape takes true or false",
             SyntaxHint::ElseIf => "the word is elif",
             SyntaxHint::Do => {
                 "set takes the value of an expression, and values are never changed in place"
@@ -123,8 +177,9 @@ impl SyntaxHint {
     }
 }
 
-/// Returns the first form that stands in the tokens from the first place of a tag on.
-#[tactic(auto, using(crate::proofs::HintLaws::hint_behind, crate::proofs::HintLaws::hint_here, crate::proofs::HintLaws::no_hint))]
+/// Returns the first form that stands in the tokens from the first place of a tag on, or at their
+/// end.
+#[tactic(auto, using(crate::proofs::HintLaws::hint_behind, crate::proofs::HintLaws::hint_here, crate::proofs::HintLaws::hint_at_end))]
 fn first_hint(
     alloc: Global,
     form: TagForm,
@@ -141,7 +196,7 @@ fn first_hint(
         place.pass(*token)?;
         rest = behind;
     }
-    Ok(None)
+    Ok(end_hint(&place))
 }
 
 /// Returns the form that the tokens of a tag have and the language does not: the first from the

@@ -10,7 +10,9 @@ use Rattle.jt_inherit.specs.Chains.{SourceTexts}
 use Rattle.jt_ast.specs.Expressions.{Text}
 use Rattle.jt_codegen.specs.Compiled.{IsCompiled}
 use Rattle.jt_codegen.specs.Explaining.{IsExplained}
+use Rattle.jt_codegen.specs.Needs.{AreNeeds}
 use Rattle.jt_codegen.specs.declared.Explained.{Explained}
+use Rattle.jt_codegen.specs.declared.Needs.{Needs}
 use Rattle.jt_image.specs.Code.{Code}
 use Rattle.jt_image.specs.Spelling.{spelling}
 use Rattle.jt_image.specs.IsCode.{total_len}
@@ -26,6 +28,7 @@ use Rattle.jt_contexts.specs.Json.{IsContext, Holds}
 use Rattle.jt_host.specs.Explanations.{told, IsExplanationOf}
 use Rattle.jt_host.specs.declared.explanation.Explanation.{Explanation}
 use Rattle.jt_host.specs.Clues.{AreCluesFor}
+use Rattle.jt_host.specs.NeedsText.{needs_text}
 use Rattle.jt_host.specs.Rendering.{IsRefused as IsUncompiled, IsRendered}
 use Rattle.jt_contexts.specs.declared.ContextError.TheVariants as context_error
 use Rattle.jt_verify.specs.Refusing.{RefusalHolds}
@@ -161,6 +164,24 @@ module _ (sources : SourceTexts) (entry : Text) (options : Options) where
   CompilesTo (Err (error.Template refusal)) = IsUncompiled sources entry options refusal
   CompilesTo (Err error.NoMemory) = Unit {0}
   CompilesTo (Err other) = ⊥
+
+  -- The result is what the entry needs, or the error states why it does not exist.
+  abbrev pub GivesNeeds : Result Needs CallError → Type 0
+  GivesNeeds (Ok needs) = AreNeeds sources entry options needs
+  GivesNeeds (Err (error.Template refusal)) = IsUncompiled sources entry options refusal
+  GivesNeeds (Err error.NoMemory) = Unit {0}
+  GivesNeeds (Err other) = ⊥
+
+  -- The text lists what the entry needs.
+  abbrev pub IsNeedsText : Text → Type 0
+  IsNeedsText text = (needs : Needs) × AreNeeds sources entry options needs × (text ≡ needs_text needs)
+
+  -- The result lists what the entry needs, or the error states why that does not exist.
+  abbrev pub ListsNeeds : Result (String Global) CallError → Type 0
+  ListsNeeds (Ok text) = IsNeedsText (string_bytes text)
+  ListsNeeds (Err (error.Template refusal)) = IsUncompiled sources entry options refusal
+  ListsNeeds (Err error.NoMemory) = Unit {0}
+  ListsNeeds (Err other) = ⊥
 
   -- The result is the text of the entry's template, or the error states why it does not exist.
   abbrev pub RendersTo : Pairs → Budget → Result (String Global) CallError → Type 0

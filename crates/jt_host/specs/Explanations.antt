@@ -21,6 +21,10 @@ use Rattle.jt_host.specs.Sentences.{sentence}
 use Rattle.jt_host.specs.SourceLines.{source_line}
 use Rattle.jt_host.specs.Subjects.{marked_name, subject_name, subject_text}
 use Rattle.jt_host.specs.Suggestions.{suggestion}
+use Rattle.jt_host.specs.SyntaxHints.{reason_text}
+use Rattle.jt_host.specs.TokenMarks.{marks_under, stray_text, token_of}
+use Rattle.jt_host.specs.declared.token_marks.Marked.{Marked}
+use Rattle.jt_host.specs.declared.syntax_hints.SourceHint.{SourceHint}
 use Rattle.jt_host.specs.Clues.{AreCluesFor}
 use Rattle.jt_host.specs.declared.clues.Clues.{Clues}
 
@@ -57,17 +61,45 @@ marks_at sources options place name = []
 abbrev pub marks_text : SourceTexts → Options → Finding → Text
 marks_text sources options f = marks_at sources options f.place (marked_name f.subject)
 
--- The place, the name of the refusal and what it is about.
-abbrev pub heading : Finding → Text
-heading f = place_text f.place ++ (error_name f.error ++ subject_text f.subject)
+-- The template and the line of the marks, or else of the tag.
+abbrev pub shown_place : Option Marked → Option TagPlace → Text
+shown_place (Some m) (Some place) =
+    string_bytes place.template ++ (codes ":" ++ (decimal (token_of m).line ++ codes ": "))
+shown_place m place = place_text place
 
--- The line of a finding, the line of the source, the marks, the rule, and a suggestion.
+-- The line of the source that has the marks, or else that of the tag.
+abbrev pub shown_source : SourceTexts → Options → Option Marked → Option TagPlace → Text
+shown_source sources options (Some m) (Some place) =
+    codes "  " ++ (string_bytes (token_of m).before ++ (string_bytes (token_of m).rest ++ codes "\n"))
+shown_source sources options m place = source_text sources options place
+
+-- The marks under a word of a tag, or else under the name in the line of the tag.
+abbrev pub marks_by : SourceTexts → Options → Option Marked → Option TagPlace → Finding → Text
+marks_by sources options (Some m) (Some place) f = marks_under (token_of m)
+marks_by sources options m place f = marks_text sources options f
+
+abbrev pub shown_marks : SourceTexts → Options → Option Marked → Finding → Text
+shown_marks sources options m f = marks_by sources options m f.place f
+
+-- The place, the name of the refusal and what it is about.
+abbrev pub heading : Clues → Finding → Text
+heading clues f = shown_place clues.mark f.place ++ (error_name f.error ++ subject_text f.subject)
+
+-- The reason of an error of syntax, if the sources show it, and otherwise the rule with a suggestion.
+abbrev pub rule_by : Option SourceHint → Clues → Finding → Text
+rule_by (Some hint) clues f = reason_text hint (option_map string_bytes clues.meant)
+rule_by None clues f = sentence f ++ (suggestion clues f ++ stray_text clues.mark)
+
+abbrev pub rule_text : Clues → Finding → Text
+rule_text clues f = rule_by clues.hint clues f
+
+-- The line of a finding, the line of the source, the marks, and the reason or the rule.
 abbrev pub finding_lines : SourceTexts → Options → Clues → Finding → Text
 finding_lines sources options clues f =
-    heading f
+    heading clues f
     ++ (codes "\n"
-    ++ (source_text sources options f.place
-    ++ (marks_text sources options f ++ (codes "  " ++ (sentence f ++ (suggestion clues f ++ codes "\n"))))))
+    ++ (shown_source sources options clues.mark f.place
+    ++ (shown_marks sources options clues.mark f ++ (codes "  " ++ (rule_text clues f ++ codes "\n")))))
 
 -- The lines of what is explained, with what the sources show of it.
 abbrev pub told : SourceTexts → Options → Clues → Explained → Text

@@ -4,6 +4,8 @@ pub mod Clues
 pub mod Explanations
 pub mod Marks
 pub mod Meant
+pub mod Metered
+pub mod NeedsText
 pub mod Reasons
 pub mod Rendering
 pub mod RunExplanations
@@ -13,11 +15,13 @@ pub mod Subjects
 pub mod Suggestions
 pub mod SyntaxHints
 pub mod Templates
+pub mod TokenMarks
 -- The modules that the clauses of the exported calls cite, and that an embedder's own clauses may
 -- need.
 pub use Rattle.jt_checks.specs.Findings
 pub use Rattle.jt_codegen.specs.Compiled
 pub use Rattle.jt_codegen.specs.Explaining
+pub use Rattle.jt_codegen.specs.Needs
 pub use Rattle.jt_codegen.specs.Refusals
 pub use Rattle.jt_contexts.specs.Json
 pub use Rattle.jt_image.specs.Code
@@ -28,6 +32,8 @@ pub use Rattle.jt_image.specs.Typed
 pub use Rattle.jt_inherit.specs.Chains
 pub use Rattle.jt_inherit.specs.Small
 pub use Rattle.jt_machine.specs.Growing
+pub use Rattle.jt_machine.specs.Metering
+pub use Rattle.jt_machine.specs.Session
 pub use Rattle.jt_machine.specs.View
 pub use Rattle.jt_value.specs.ContextView
 pub use Rattle.jt_value.specs.FaultText

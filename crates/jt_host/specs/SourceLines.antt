@@ -1,5 +1,5 @@
 -- The lines of a source, as the compiler counts them.
-use Rattle.std.specs.Prelude.{ℕ, zero, suc, List, [], ◌==◌, nat_le, length, if◌then◌else◌}
+use Rattle.std.specs.Prelude.{ℕ, zero, suc, ◌+◌, List, [], ◌==◌, count_by, nat_le, length, if◌then◌else◌}
 use Rattle.std.specs.List.{before_first, after_first}
 use Rattle.jt_scan.specs.LineEnds.{normalized}
 use Rattle.jt_scan.specs.SourceView.{max_source_len}
@@ -23,3 +23,11 @@ line_of (suc (suc n)) text = line_of (suc n) (after_line text)
 abbrev pub source_line : Options → List ℕ → ℕ → List ℕ
 source_line options text line =
     if nat_le (length text) max_source_len then line_of line (normalized options.keep_trailing_newline text) else []
+
+-- The number of the line at the end of a text, counted from 1.
+abbrev pub line_number : List ℕ → ℕ
+line_number text = 1 + count_by (λ b. b == 10) text
+
+-- The last line of a text, as far as the text has it.
+abbrev pub last_line : List ℕ → List ℕ
+last_line text = line_of (line_number text) text

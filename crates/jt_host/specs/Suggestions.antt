@@ -11,8 +11,9 @@ use Rattle.jt_ids.specs.FilterTable.{filters, filter_names}
 use Rattle.jt_ids.specs.LoopTable.{field_named}
 use Rattle.jt_ids.specs.TestTable.{tests, test_names}
 use Rattle.jt_hints.specs.Edits.{nearest}
-use Rattle.jt_host.specs.SyntaxHints.{hint_text}
-use Rattle.jt_hints.specs.LeftOut.{left_out_filter, left_out_function, left_out_method, left_out_test}
+use Rattle.jt_hints.specs.LeftOut.{left_out_filter, left_out_function, left_out_loop_field, left_out_method}
+use Rattle.jt_hints.specs.LeftOut.{left_out_test}
+use Rattle.jt_hints.specs.Fitting.{field_arguments, filter_arguments, function_arguments, test_arguments}
 use Rattle.jt_codegen.specs.declared.ChainError.TheVariants as chain_error
 use Rattle.jt_codegen.specs.declared.ChainSubject.{ChainSubject}
 use Rattle.jt_codegen.specs.declared.ChainSubject.TheVariants as chain_subject
@@ -26,7 +27,7 @@ use Rattle.jt_codegen.specs.declared.TagPlace.{TagPlace}
 use Rattle.jt_host.specs.Subjects.{quoted}
 use Rattle.jt_host.specs.declared.clues.Clues.{Clues}
 
--- ---- what to write in place of what the language leaves out
+-- ---- what to write in place of what the language leaves out, and what takes other arguments
 
 abbrev pub word_advice : Option Subject → Option Text
 word_advice (Some (subject.Filter x)) = left_out_filter (string_bytes x)
@@ -38,9 +39,27 @@ callee_advice (Some (subject.CalledName x)) = left_out_function (string_bytes x)
 callee_advice (Some (subject.CalledField of k)) = left_out_method (string_bytes k)
 callee_advice about = None
 
+-- A field of `loop` that is read or called.
+abbrev pub loop_advice : Option Subject → Option Text
+loop_advice (Some (subject.LoopField k)) = left_out_loop_field (string_bytes k)
+loop_advice (Some (subject.CalledField of k)) = left_out_loop_field (string_bytes k)
+loop_advice about = None
+
+-- What the filter, test, function or field takes whose arguments do not fit.
+abbrev pub arguments_advice : Option Subject → Option Text
+arguments_advice (Some (subject.Filter x)) = filter_arguments (string_bytes x)
+arguments_advice (Some (subject.Test x)) = test_arguments (string_bytes x)
+arguments_advice (Some (subject.CalledName x)) = function_arguments (string_bytes x)
+arguments_advice (Some (subject.CalledField of k)) = field_arguments (string_bytes of) (string_bytes k)
+arguments_advice about = None
+
 abbrev pub advice : CompileError → Option Subject → Option Text
 advice (compile_error.Chain (chain_error.Parse template e)) about = word_advice about
+advice (compile_error.Chain chain_error.BadName) about =
+    Some (codes "a name has 1 to 255 bytes, no backslash, and no part between / that is empty, . or ..")
 advice (compile_error.Scope scope_error.NotCallable) about = callee_advice about
+advice (compile_error.Scope scope_error.LoopOutside) about = loop_advice about
+advice (compile_error.Scope scope_error.BadArguments) about = arguments_advice about
 advice e about = None
 
 -- ---- the known name that a name probably means
@@ -103,10 +122,13 @@ method_of None = None
 abbrev pub method_advice : Clues → Option Text
 method_advice clues = method_of clues.method
 
--- What to write: the advice on a word or on a method, or else the reason of the error of syntax.
+-- What the macro takes whose arguments do not fit.
+abbrev pub macro_advice : Clues → Option Text
+macro_advice clues = option_map string_bytes clues.takes
+
+-- What to write: the advice on a word, or else on a method, or else on a macro.
 abbrev pub advice_text : Clues → Finding → Option Text
-advice_text clues f =
-    option_or (advice f.error f.subject) (option_or (method_advice clues) (option_map hint_text clues.hint))
+advice_text clues f = option_or (advice f.error f.subject) (option_or (method_advice clues) (macro_advice clues))
 
 -- The known name that was probably meant, or else that of the sources.
 abbrev pub meant_text : Clues → Finding → Option Text

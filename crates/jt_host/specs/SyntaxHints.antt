@@ -18,6 +18,7 @@ use Rattle.jt_hints.specs.Positions as positions
 use Rattle.jt_hints.specs.Positions.{position_hint}
 use Rattle.jt_hints.specs.declared.nesting.NestingHint.TheVariants as nesting_hint_of
 use Rattle.jt_hints.specs.declared.syntax.SyntaxHint.{SyntaxHint}
+use Rattle.jt_hints.specs.declared.syntax.SyntaxHint.TheVariants as form_hint
 use Rattle.jt_ast.specs.Expressions.{Text}
 use Rattle.jt_inherit.specs.Chains.{SourceTexts, scanned}
 use Rattle.jt_codegen.specs.declared.ParseError.{ParseError}
@@ -26,6 +27,7 @@ use Rattle.jt_codegen.specs.declared.ChainError.{ChainError}
 use Rattle.jt_codegen.specs.declared.ChainError.TheVariants as chain_error
 use Rattle.jt_codegen.specs.declared.CompileError.{CompileError}
 use Rattle.jt_codegen.specs.declared.CompileError.TheVariants as compile_error
+use Rattle.jt_host.specs.Subjects.{quoted}
 use Rattle.jt_host.specs.declared.syntax_hints.SourceHint.{SourceHint}
 use Rattle.jt_host.specs.declared.syntax_hints.SourceHint.TheVariants as hint
 use Rattle.jt_codegen.specs.declared.Explained.{Explained}
@@ -64,6 +66,12 @@ abbrev pub hint_text : SourceHint → Text
 hint_text (hint.Nesting (nesting_hint_of.OtherOpen s line)) =
     nesting.sentence (nesting_hint_of.OtherOpen s line) ++ (codes "; it begins at line " ++ decimal line)
 hint_text h = sentence h
+
+-- A word that begins no statement is followed by the word that was probably meant.
+abbrev pub reason_text : SourceHint → Option Text → Text
+reason_text (hint.Form form_hint.UnknownStatement) (Some name) =
+    forms.sentence form_hint.UnknownStatement ++ (codes "; did you mean" ++ (quoted name ++ codes "?"))
+reason_text h meant = hint_text h
 
 -- The source is cut into segments, which have this reason at the line.
 pub record HasHint (options : Options) (source : Text) (line : ℕ) (h : SourceHint) : Type 0 where

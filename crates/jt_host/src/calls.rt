@@ -1,6 +1,7 @@
 //! Compiles, verifies and runs templates and images in one call each, over bytes.
 ghost use Rattle.jt_value.specs.ContextView.{pairs_of};
 ghost use Rattle.jt_host.specs.Calls.{ChecksTo, ComesTo, CompilesTo, GivesContext, GivesImage};
+ghost use Rattle.jt_host.specs.Calls.{GivesNeeds};
 ghost use Rattle.jt_host.specs.Calls.{RendersTo, RunsTo, UpgradesTo, VerifiesTo};
 ghost use Rattle.jt_host.specs.Templates.{source_of};
 
@@ -8,7 +9,7 @@ use crate::call_error::{CallError, text_of};
 use crate::rendering::{render, verify_compiled};
 use crate::templates::Templates;
 use jt_budget::Budget;
-use jt_codegen::compile;
+use jt_codegen::{Needs, compile, find_needs};
 use jt_contexts::{ContextError, context_from_json};
 use jt_image::{Code, decode, encode, upgrade, view};
 use jt_machine::{run, run_view};
@@ -52,6 +53,21 @@ pub fn image_of(alloc: Global, entry: &EntryTemplate<'_>) -> Result<Vec<u8>, Cal
 {
     let image = compile(alloc, entry.name, entry.templates, entry.options)?;
     Ok(encode(alloc, &image)?)
+}
+
+/// Returns what the entry needs: the names of a context that its image reads, and the templates
+/// that it is compiled from. The entry compiles to the same code as long as these templates stay
+/// the same and the missing ones stay missing.
+///
+/// # Errors
+///
+/// - `Template` if the compiler refuses the templates.
+/// - `NoMemory` if a growth is refused.
+pub fn needs_of(alloc: Global, entry: &EntryTemplate<'_>) -> Result<Needs, CallError>
+    ensures { GivesNeeds (source_of entry.now.templates.now) entry.now.name.now entry.now.options
+        result }
+{
+    Ok(find_needs(alloc, entry.name, entry.templates, entry.options)?)
 }
 
 /// Compiles the entry, verifies its image, and returns that.

@@ -16,7 +16,9 @@ use crate::sentences::sentence_of;
 use crate::source_lines::source_line;
 use crate::subjects::{marked_name, quoted_subject, subject_name};
 use crate::suggestions::suggestion_of;
+use crate::syntax_hints::reason_text;
 use crate::templates::Templates;
+use crate::token_marks::{TokenMark, marks_under, stray_text, token_of};
 use jt_codegen::{CompileError, Explained, Finding, TagPlace, explain};
 use jt_inherit::Library;
 use jt_scan::Options;
@@ -117,19 +119,83 @@ fn lines_of(
     ensures { IfOk result (λ text. string_bytes text
         ≡ spec.finding_lines (source_of templates.now) options clues.now finding.now) }
 {
-    let heading = heading_of(alloc, finding)?;
-    let source = source_text(alloc, templates, options, &finding.place)?;
-    let marks = marks_text(alloc, templates, options, finding)?;
+    let heading = heading_of(alloc, finding, clues)?;
+    let source = shown_source(alloc, templates, options, finding, clues)?;
+    let marks = shown_marks(alloc, templates, options, finding, clues)?;
+    let rule = rule_text(alloc, finding, clues)?;
+    format!(in alloc; "{heading}\n{source}{marks}  {rule}\n")
+}
+
+/// Returns the reason of an error of syntax, if the sources show it, and otherwise the rule with a
+/// suggestion.
+fn rule_text(alloc: Global, finding: &Finding, clues: &Clues) -> Result<String, AllocError>
+    ensures { IfOk result (λ text. string_bytes text ≡ spec.rule_text clues.now finding.now) }
+{
+    if let Some(hint) = clues.hint {
+        return reason_text(alloc, hint, &clues.meant);
+    }
     let sentence = sentence_of(alloc, finding)?;
     let suggestion = suggestion_of(alloc, finding, clues)?;
-    format!(in alloc; "{heading}\n{source}{marks}  {sentence}{suggestion}\n")
+    let stray = stray_text(alloc, &clues.mark)?;
+    format!(in alloc; "{sentence}{suggestion}{stray}")
+}
+
+/// Returns the template and the line of the marks, or else of the tag.
+fn shown_place(alloc: Global, finding: &Finding, clues: &Clues) -> Result<String, AllocError>
+    ensures { IfOk result (λ text. string_bytes text
+        ≡ spec.shown_place clues.now.mark finding.now.place) }
+{
+    match (&clues.mark, &finding.place) {
+        (Some(marked), Some(TagPlace { template, .. })) => {
+            let line = token_of(marked).line;
+            format!(in alloc; "{template}:{line}: ")
+        }
+        _ => place_text(alloc, &finding.place),
+    }
+}
+
+/// Returns the line of the source that has the marks, or else that of the tag.
+fn shown_source(
+    alloc: Global,
+    templates: &Templates,
+    options: Options,
+    finding: &Finding,
+    clues: &Clues,
+) -> Result<String, AllocError>
+    ensures { IfOk result (λ text. string_bytes text
+        ≡ spec.shown_source (source_of templates.now) options clues.now.mark finding.now.place) }
+{
+    match (&clues.mark, &finding.place) {
+        (Some(marked), Some(_)) => {
+            let TokenMark { before, rest, .. } = token_of(marked);
+            format!(in alloc; "  {before}{rest}\n")
+        }
+        _ => source_text(alloc, templates, options, &finding.place),
+    }
+}
+
+/// Returns the marks under a word of a tag, or else under the name in the line of the tag.
+fn shown_marks(
+    alloc: Global,
+    templates: &Templates,
+    options: Options,
+    finding: &Finding,
+    clues: &Clues,
+) -> Result<String, AllocError>
+    ensures { IfOk result (λ text. string_bytes text
+        ≡ spec.shown_marks (source_of templates.now) options clues.now.mark finding.now) }
+{
+    match (&clues.mark, &finding.place) {
+        (Some(marked), Some(_)) => marks_under(alloc, token_of(marked)),
+        _ => marks_text(alloc, templates, options, finding),
+    }
 }
 
 /// Returns the first line of a finding, without its end.
-fn heading_of(alloc: Global, finding: &Finding) -> Result<String, AllocError>
-    ensures { IfOk result (λ text. string_bytes text ≡ spec.heading finding.now) }
+fn heading_of(alloc: Global, finding: &Finding, clues: &Clues) -> Result<String, AllocError>
+    ensures { IfOk result (λ text. string_bytes text ≡ spec.heading clues.now finding.now) }
 {
-    let place = place_text(alloc, &finding.place)?;
+    let place = shown_place(alloc, finding, clues)?;
     let name = name_of(&finding.error);
     let subject = quoted_subject(alloc, &finding.subject)?;
     format!(in alloc; "{place}{name}{subject}")

@@ -18,7 +18,8 @@
 //!
 //! `docs/embedding.md` shows each step. Other ways to run: [`run_to`] writes the text into a
 //! [`Sink`] while it is made; a [`Machine`] stops after a number of instructions and resumes later;
-//! a [`Host`] has up to 64 sessions that take turns; and [`render`] does all the steps in one call.
+//! a [`MeteredRun`] does so over a shared image, and counts what it has [`Used`]; a [`Host`] has up
+//! to 64 sessions that take turns; and [`render`] does all the steps in one call.
 //!
 //! Each call that allocates takes the allocator first, and reports lack of memory in its own error.
 #![tactic(auto)]
@@ -31,6 +32,8 @@ mod explaining_runs;
 mod explanation;
 mod marks;
 mod meant;
+mod metered_outcome;
+mod needs;
 mod reasons;
 mod refusal_code;
 mod rendering;
@@ -40,25 +43,27 @@ mod subjects;
 mod suggestions;
 mod syntax_hints;
 mod templates;
+mod token_marks;
 
 pub use call_error::CallError;
 pub use calls::{
-    EntryTemplate, context_of, counts_of, image_of, render_text, run_image, run_verified, upgraded,
-    verified_image, verified_template,
+    EntryTemplate, context_of, counts_of, image_of, needs_of, render_text, run_image, run_verified,
+    upgraded, verified_image, verified_template,
 };
 pub use explaining::{explained, explanation_of};
 pub use explaining_runs::explained_run;
 pub use explanation::{Explanation, TemplateRefusal};
 pub use jt_budget::{Budget, Spent};
 pub use jt_codegen::{
-    ChainSubject, CompileError, Explained, Finding, Limit, Subject, TagPlace, compile, explain,
+    ChainSubject, CompileError, Explained, Finding, Limit, Needs, Subject, TagPlace, compile,
+    explain, find_needs,
 };
 pub use jt_contexts::{ContextError, context_from_json};
 pub use jt_image::{Code, Image, ImageError, View, decode, encode, upgrade, view};
 pub use jt_inherit::Library;
 pub use jt_machine::{
-    Ended, IoSink, Machine, Outcome, Place, Progress, RunToError, Sink, SinkFailed, run, run_to,
-    run_view,
+    Ended, IoSink, Machine, MeteredRun, Outcome, Place, Progress, RunToError, Sink, SinkFailed,
+    Used, metering_laws, run, run_to, run_view,
 };
 pub use jt_scan::Options;
 pub use jt_sessions::{Host, HostError};
@@ -66,6 +71,8 @@ pub use jt_value::{
     Context, Fault, ListItems, NoMemory, NumberRange, Text, Value, ValueError, ValueList, ValueMap,
 };
 pub use jt_verify::{Flaw, Refusal, Verified, VerifiedView, verify, verify_view};
+pub use metered_outcome::{MeteredOutcome, meter_image, meter_template};
+pub use needs::listed_needs;
 pub use reasons::Reason;
 pub use refusal_code::RefusalCode;
 pub use rendering::{RenderError, render};

@@ -57,7 +57,7 @@ fn is_apart(line: &[u8], start: usize, end: usize) -> bool
 }
 
 /// Returns whether the name stands in the line at the index, as a whole word.
-fn stands_at(line: &[u8], name: &[u8], at: usize) -> bool
+pub(crate) fn stands_at(line: &[u8], name: &[u8], at: usize) -> bool
     requires { at ≤ length line.now }
     ensures { result ≡ spec.stands_at line.now name.now at }
 {
@@ -85,7 +85,7 @@ fn push_pad(made: &mut String, byte: u8) -> Result<(), AllocError>
 }
 
 /// Appends what is under the text before the name.
-fn push_pads(made: &mut String, before: &[u8]) -> Result<(), AllocError>
+pub(crate) fn push_pads(made: &mut String, before: &[u8]) -> Result<(), AllocError>
     ensures { OnOk result (string_bytes made.new
         ≡ string_bytes made.old ++ flat_map spec.pad before.now) }
 {
@@ -107,7 +107,7 @@ fn push_caret(made: &mut String, byte: u8) -> Result<(), AllocError>
 }
 
 /// Appends what is under the name.
-fn push_carets(made: &mut String, name: &[u8]) -> Result<(), AllocError>
+pub(crate) fn push_carets(made: &mut String, name: &[u8]) -> Result<(), AllocError>
     ensures { OnOk result (string_bytes made.new
         ≡ string_bytes made.old ++ flat_map spec.caret name.now) }
 {

@@ -1,13 +1,18 @@
-//! Finds the name in the sources that the name of a refusal probably means, and the method that is
-//! called.
+//! Finds the name in the sources that the name of a refusal probably means, the method that is
+//! called, and what a macro takes.
 
 ghost use Rattle.std.specs.Prelude.{◌≡◌, IfOk, IfSome, option_map, string_bytes};
 ghost use Rattle.jt_host.specs.Meant as spec;
 ghost use Rattle.jt_host.specs.Templates.{source_of};
 
 use crate::templates::Templates;
-use jt_codegen::{ChainError, ChainSubject, CompileError, Explained, Finding, ScopeError, Subject};
-use jt_hints::{NameKind, called_method, defined_names, layout_named, library_named, nearest};
+use jt_codegen::{
+    ChainError, ChainSubject, CompileError, Explained, Finding, ParseError, ScopeError, Subject,
+};
+use jt_hints::{
+    NameKind, called_method, defined_names, layout_named, library_named, macro_arguments, nearest,
+    statement_names, unknown_statement,
+};
 use jt_inherit::Library;
 use jt_scan::{Options, ScanError, Segment, Source, scan};
 use std::alloc::{AllocError, Global};
@@ -23,6 +28,10 @@ pub enum Sought<'a> {
     Layout,
     /// The first method of a Python value that the tags at a line call.
     Method(u32),
+    /// The word of a statement that is nearest to the first one of a tag at a line.
+    Statement(u32),
+    /// What the macro of a name takes.
+    Macro(&'a str),
 }
 
 /// The templates of a library, and the options under which they are read.
@@ -43,6 +52,17 @@ fn copied(alloc: Global, text: Option<&str>) -> Result<Option<String>, AllocErro
     }
 }
 
+/// Returns the word of a statement that is nearest to the first one of the tags at the line that
+/// begins none.
+fn near_statement(line: u32, segments: &[Segment<'_>]) -> Option<&'static str>
+    ensures { option_map (λ x. x.now) result ≡ spec.near_statement line segments.now }
+{
+    match unknown_statement(line, segments) {
+        Some(word) => nearest(word, statement_names()),
+        None => None,
+    }
+}
+
 /// Returns what is sought, if the segments have it.
 fn found_in(
     alloc: Global,
@@ -60,6 +80,8 @@ fn found_in(
         Sought::Library(name) => copied(alloc, library_named(name, segments)),
         Sought::Layout => copied(alloc, layout_named(segments)),
         Sought::Method(line) => copied(alloc, called_method(line, segments)),
+        Sought::Statement(line) => copied(alloc, near_statement(line, segments)),
+        Sought::Macro(name) => macro_arguments(alloc, name, segments),
     }
 }
 
@@ -206,6 +228,12 @@ fn meant_by(
         spec.IsMeantBy (source_of sources.entry.templates.now) sources.entry.options finding.now
         (string_bytes y))) }
 {
+    if let CompileError::Chain(
+        ChainError::Parse(name, ParseError::Syntax { line }),
+    ) = &finding.error
+    {
+        return found_by(alloc, sources, name, Sought::Statement(*line));
+    }
     let Some(subject) = &finding.subject else {
         return Ok(None);
     };
@@ -270,5 +298,87 @@ pub(crate) fn method_for(
     match explained {
         Explained::Compiles => Ok(None),
         Explained::Refused(finding) => method_by(alloc, Sources { templates, options }, finding),
+    }
+}
+
+/// Returns what the macro takes that a field of a library is.
+fn taken_by_field(
+    alloc: Global,
+    sources: Sources<'_>,
+    template: &str,
+    of: &str,
+    field: &str,
+) -> Result<Option<String>, AllocError>
+    ensures { IfOk result (λ found. IfSome found (λ y.
+        spec.IsTakenByField (source_of sources.entry.templates.now) sources.entry.options
+        template.now of.now field.now (string_bytes y))) }
+{
+    match found_by(alloc, sources, template, Sought::Library(of))? {
+        Some(library) => found_by(alloc, sources, &library, Sought::Macro(field)),
+        None => Ok(None),
+    }
+}
+
+/// Returns what the macro of a name takes: one of the template, or of the template that it extends.
+fn taken_by_name(
+    alloc: Global,
+    sources: Sources<'_>,
+    template: &str,
+    name: &str,
+) -> Result<Option<String>, AllocError>
+    ensures { IfOk result (λ found. IfSome found (λ y.
+        spec.IsTakenByName (source_of sources.entry.templates.now) sources.entry.options
+        template.now name.now (string_bytes y))) }
+{
+    let sought = Sought::Macro(name);
+    if let Some(taken) = found_by(alloc, sources, template, sought)? {
+        return Ok(Some(taken));
+    }
+    match found_by(alloc, sources, template, Sought::Layout)? {
+        Some(layout) => found_by(alloc, sources, &layout, sought),
+        None => Ok(None),
+    }
+}
+
+/// Returns what the macro takes whose arguments do not fit.
+fn taken_by(
+    alloc: Global,
+    sources: Sources<'_>,
+    finding: &Finding,
+) -> Result<Option<String>, AllocError>
+    ensures { IfOk result (λ found. IfSome found (λ y.
+        spec.IsTakenBy (source_of sources.entry.templates.now) sources.entry.options finding.now
+        (string_bytes y))) }
+{
+    let Finding {
+        error: CompileError::Scope(ScopeError::BadArguments),
+        place: Some(place),
+        subject: Some(subject),
+    } = finding
+    else {
+        return Ok(None);
+    };
+    match subject {
+        Subject::CalledName(name) => taken_by_name(alloc, sources, &place.template, name),
+        Subject::CalledField { of, field } => {
+            taken_by_field(alloc, sources, &place.template, of, field)
+        }
+        _ => Ok(None),
+    }
+}
+
+/// Returns what the macro takes for whose arguments an entry does not compile.
+pub(crate) fn taken_for(
+    alloc: Global,
+    templates: &Templates,
+    options: Options,
+    explained: &Explained,
+) -> Result<Option<String>, AllocError>
+    ensures { IfOk result (λ found. IfSome found (λ y.
+        spec.IsTakenFor (source_of templates.now) options explained.now (string_bytes y))) }
+{
+    match explained {
+        Explained::Compiles => Ok(None),
+        Explained::Refused(finding) => taken_by(alloc, Sources { templates, options }, finding),
     }
 }

@@ -1,6 +1,7 @@
 //! Finds a line of a source.
 
-ghost use Rattle.std.specs.Prelude.{◌≡◌, IfOk, string_bytes};
+ghost use Rattle.std.specs.Prelude.{◌≡◌, ◌≤◌, IfOk, length, string_bytes};
+ghost use Rattle.jt_scan.specs.SourceView.{max_source_len};
 ghost use Rattle.jt_host.specs.SourceLines as spec;
 
 use jt_scan::{Options, ScanError, Source};
@@ -31,7 +32,7 @@ fn after_line(text: &str) -> &str
 }
 
 /// Returns the first line, without its end.
-fn first_line(text: &str) -> &str
+pub(crate) fn first_line(text: &str) -> &str
     ensures { result.now ≡ spec.first_line text.now }
 {
     match text.split_once('\n') {
@@ -55,4 +56,26 @@ pub(crate) fn source_line(
         Err(ScanError::NoMemory) => Err(AllocError),
         Err(_) => Ok(String::new(alloc)),
     }
+}
+
+/// Returns the number of the line at the end of a text, counted from 1.
+pub(crate) fn line_number(text: &str) -> u32
+    requires { length text.now ≤ max_source_len }
+    ensures { result ≡ spec.line_number text.now }
+{
+    let mut line = 1;
+    for byte in text.as_bytes() {
+        if *byte == b'\n' {
+            line += 1;
+        }
+    }
+    line
+}
+
+/// Returns the last line of a text, as far as the text has it.
+pub(crate) fn last_line(text: &str) -> &str
+    requires { length text.now ≤ max_source_len }
+    ensures { result.now ≡ spec.last_line text.now }
+{
+    line_of(text, line_number(text))
 }

@@ -6,11 +6,11 @@ ghost use Rattle.jt_host.specs.Suggestions as spec;
 
 use crate::clues::Clues;
 use crate::subjects::quoted;
-use crate::syntax_hints::hint_text;
 use jt_codegen::{ChainError, ChainSubject, CompileError, Finding, ScopeError, Subject, TagPlace};
 use jt_hints::{
-    filter_names, left_out_filter, left_out_function, left_out_method, left_out_test, nearest,
-    test_names,
+    field_arguments, filter_arguments, filter_names, function_arguments, left_out_filter,
+    left_out_function, left_out_loop_field, left_out_method, left_out_test, nearest,
+    test_arguments, test_names,
 };
 use jt_ids::LoopField;
 use std::alloc::{AllocError, Global};
@@ -56,13 +56,42 @@ fn callee_advice(subject: &Option<Subject>) -> Option<&'static str>
     }
 }
 
-/// Returns what to write in place of what the language leaves out.
+/// Returns what to write in place of a field of `loop` that is read or called.
+fn loop_advice(subject: &Option<Subject>) -> Option<&'static str>
+    ensures { option_map (λ x. x.now) result ≡ spec.loop_advice subject.now }
+{
+    match subject {
+        Some(Subject::LoopField(field)) => left_out_loop_field(field),
+        Some(Subject::CalledField { field, .. }) => left_out_loop_field(field),
+        _ => None,
+    }
+}
+
+/// Returns what the filter, test, function or field takes whose arguments do not fit.
+fn arguments_advice(subject: &Option<Subject>) -> Option<&'static str>
+    ensures { option_map (λ x. x.now) result ≡ spec.arguments_advice subject.now }
+{
+    match subject {
+        Some(Subject::Filter(name)) => filter_arguments(name),
+        Some(Subject::Test(name)) => test_arguments(name),
+        Some(Subject::CalledName(name)) => function_arguments(name),
+        Some(Subject::CalledField { of, field }) => field_arguments(of, field),
+        _ => None,
+    }
+}
+
+/// Returns what to write in place of what the language leaves out, or what takes other arguments.
 fn advice_of(error: &CompileError, subject: &Option<Subject>) -> Option<&'static str>
     ensures { option_map (λ x. x.now) result ≡ spec.advice error.now subject.now }
 {
     match error {
         CompileError::Chain(ChainError::Parse(..)) => word_advice(subject),
+        CompileError::Chain(ChainError::BadName) => Some(
+            "a name has 1 to 255 bytes, no backslash, and no part between / that is empty, . or ..",
+        ),
         CompileError::Scope(ScopeError::NotCallable) => callee_advice(subject),
+        CompileError::Scope(ScopeError::LoopOutside) => loop_advice(subject),
+        CompileError::Scope(ScopeError::BadArguments) => arguments_advice(subject),
         _ => None,
     }
 }
@@ -112,25 +141,27 @@ fn method_advice(clues: &Clues) -> Option<&'static str>
     }
 }
 
-/// Returns what to write: the advice on a word or on a method, or else the reason of the error of
-/// syntax. Returns `None` if there is none of them.
-fn advice_text(
-    alloc: Global,
-    finding: &Finding,
-    clues: &Clues,
-) -> Result<Option<String>, AllocError>
-    ensures { IfOk result (λ text. option_map string_bytes text
-        ≡ spec.advice_text clues.now finding.now) }
+/// Returns what the macro takes whose arguments do not fit.
+fn macro_advice(clues: &Clues) -> Option<&str>
+    ensures { option_map (λ x. x.now) result ≡ spec.macro_advice clues.now }
 {
-    if let Some(words) = advice_of(&finding.error, &finding.subject) {
-        return Ok(Some(String::from_str(alloc, words)?));
+    match &clues.takes {
+        Some(words) => Some(words.as_str()),
+        None => None,
     }
-    if let Some(words) = method_advice(clues) {
-        return Ok(Some(String::from_str(alloc, words)?));
-    }
-    match clues.hint {
-        Some(hint) => Ok(Some(hint_text(alloc, hint)?)),
-        None => Ok(None),
+}
+
+/// Returns what to write: the advice on a word, or else on a method, or else on a macro.
+fn advice_text<'a>(finding: &Finding, clues: &'a Clues) -> Option<&'a str>
+    ensures { option_map (λ x. x.now) result ≡ spec.advice_text clues.now finding.now }
+{
+    match (
+        advice_of(&finding.error, &finding.subject),
+        method_advice(clues),
+    ) {
+        (Some(words), _) => Some(words),
+        (None, Some(words)) => Some(words),
+        (None, None) => macro_advice(clues),
     }
 }
 
@@ -201,7 +232,7 @@ pub(crate) fn suggestion_of(
 ) -> Result<String, AllocError>
     ensures { IfOk result (λ text. string_bytes text ≡ spec.suggestion clues.now finding.now) }
 {
-    if let Some(words) = advice_text(alloc, finding, clues)? {
+    if let Some(words) = advice_text(finding, clues) {
         return format!(in alloc; "; {words}");
     }
     match meant_text(finding, clues) {

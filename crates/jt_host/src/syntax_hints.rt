@@ -1,10 +1,11 @@
 //! Finds the reason of an error of syntax: the form that a tag has and the language does not, the
 //! statements that do not nest, or the tag that stands where it may not.
 
-ghost use Rattle.std.specs.Prelude.{◌≡◌, IfOk, IfSome, string_bytes};
+ghost use Rattle.std.specs.Prelude.{◌≡◌, IfOk, IfSome, option_map, string_bytes};
 ghost use Rattle.jt_host.specs.SyntaxHints as spec;
 ghost use Rattle.jt_host.specs.Templates.{source_of};
 
+use crate::subjects::quoted;
 use crate::templates::Templates;
 use jt_codegen::{ChainError, CompileError, Explained, ParseError};
 use jt_hints::{NestingHint, PositionHint, SyntaxHint, nesting_hint, position_hint, syntax_hint};
@@ -37,7 +38,7 @@ impl SourceHint {
 }
 
 /// Returns what an explanation says of the reason, with the line of the statement that is open.
-pub(crate) fn hint_text(alloc: Global, hint: SourceHint) -> Result<String, AllocError>
+fn hint_text(alloc: Global, hint: SourceHint) -> Result<String, AllocError>
     ensures { IfOk result (λ text. string_bytes text ≡ spec.hint_text hint) }
 {
     let sentence = hint.sentence();
@@ -46,6 +47,26 @@ pub(crate) fn hint_text(alloc: Global, hint: SourceHint) -> Result<String, Alloc
             format!(in alloc; "{sentence}; it begins at line {line}")
         }
         _ => String::from_str(alloc, sentence),
+    }
+}
+
+/// Returns what an explanation says of the reason. A word that begins no statement is followed by
+/// the word that was probably meant.
+pub(crate) fn reason_text(
+    alloc: Global,
+    hint: SourceHint,
+    meant: &Option<String>,
+) -> Result<String, AllocError>
+    ensures { IfOk result (λ text. string_bytes text
+        ≡ spec.reason_text hint (option_map string_bytes meant.now)) }
+{
+    match (hint, meant) {
+        (SourceHint::Form(SyntaxHint::UnknownStatement), Some(name)) => {
+            let name = quoted(alloc, name)?;
+            let sentence = hint.sentence();
+            format!(in alloc; "{sentence}; did you mean{name}?")
+        }
+        _ => hint_text(alloc, hint),
     }
 }
 

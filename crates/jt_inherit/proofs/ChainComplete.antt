@@ -227,7 +227,13 @@ module _ {given : SourceTexts} {options : Options} {entry : Text} {ts : List Tem
     }
 
     abbrev pub chain : Seen
-    chain = record { templates = ts; order = its_order; escaping = options.autoescape }
+    chain =
+        record {
+          templates = ts;
+          order = its_order;
+          escaping = options.autoescape;
+          strict = options.strict;
+        }
 
     -- A requested name is read, or it has no source.
     complete : (n : Text) → Asks (sources_in ts) options.autoescape (a_chain entry) n
@@ -272,6 +278,7 @@ module _ {given : SourceTexts} {options : Options} {entry : Text} {ts : List Tem
     pub linked : IsLinked given entry options chain
     linked = record {
       escaping = refl;
+      strict = refl;
       read = f.known.read;
       only = f.known.only;
       asked = templates_asked;

@@ -64,6 +64,7 @@ pub record AreRead (given : SourceTexts) (options : Options) (templates : List T
 -- and libraries are those that are reached.
 pub record IsChain (given : SourceTexts) (entry : Text) (options : Options) (chain : Seen) : Type 0 where
   pub escaping : chain.escaping ≡ options.autoescape
+  pub strict : chain.strict ≡ options.strict
   pub read : AreRead given options chain.templates
   pub asked : (name : Text)
       → IsTrue (among name (map (λ t. t.name) chain.templates))

@@ -24,6 +24,7 @@ pub record KeepsLinkRules (sources : Sources) (escaping : Bool) (entry : Namespa
 -- Each template can be read in no other way, and the path of each chain and library is whole.
 pub record IsLinked (given : SourceTexts) (entry : Text) (options : Options) (chain : Seen) : Type 0 where
   pub escaping : chain.escaping ≡ options.autoescape
+  pub strict : chain.strict ≡ options.strict
   pub read : AreRead given options chain.templates
   pub only : AllByRecursion (IsOnly given options) chain.templates
   pub asked : (name : Text)

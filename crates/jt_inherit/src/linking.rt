@@ -67,6 +67,7 @@ pub fn link<L: Library>(
         templates: found.store.files,
         namespaces,
         autoescape: options.autoescape,
+        strict: options.strict,
         indices: found.store.indices,
     })
 }

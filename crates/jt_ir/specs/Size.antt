@@ -1,8 +1,8 @@
 -- The size of resolved trees, in instructions and stack entries, before any code exists.
 use Rattle.std.specs.Prelude.{ℕ, suc, ◌+◌, max, List, [], ◌∷◌, length, Option, Some, None}
-use Rattle.jt_ir.specs.Slots.{SlotExpr, pooled, variable, field, absent, made, conjunction, disjunction, choice, invoke}
-use Rattle.jt_ir.specs.Slots.{SRow, none, item, aside, Targets, one, several, SlotStmt, put_pooled, print, assign}
-use Rattle.jt_ir.specs.Slots.{if_else, for_each, capture, run, SBody, end, stmt, Routine}
+use Rattle.jt_ir.specs.Slots.{NaryOp, required, SlotExpr, pooled, variable, field, absent, made, conjunction}
+use Rattle.jt_ir.specs.Slots.{disjunction, choice, invoke, SRow, none, item, aside, Targets, one, several, SlotStmt}
+use Rattle.jt_ir.specs.Slots.{put_pooled, print, assign, if_else, for_each, capture, run, SBody, end, stmt, Routine}
 
 -- The number of values of a sequence.
 abbrev pub row_count : {K : Type 0} → SRow K → ℕ
@@ -20,6 +20,18 @@ abbrev pub targets_height : Targets → ℕ
 targets_height (one s) = 1
 targets_height (several ss) = max 1 (length ss)
 
+-- The number of instructions that make a value of the values of a sequence. The four instructions
+-- of a required value are a copy, the test of the copy, a jump, and the operator that faults.
+abbrev pub nary_op_size : NaryOp → ℕ
+nary_op_size required = 4
+nary_op_size k = 1
+
+-- The number of entries that such instructions need, with the values of the sequence. A required
+-- value needs one more for its copy.
+abbrev pub nary_op_height : NaryOp → ℕ
+nary_op_height required = 2
+nary_op_height k = 1
+
 module _ {K : Type 0} where
   -- ---- Size: the number of instructions of each form
 
@@ -29,7 +41,7 @@ module _ {K : Type 0} where
     expr_size (variable s) = 1
     expr_size (field f) = 1
     expr_size absent = 0
-    expr_size (made k es) = row_size es + 1
+    expr_size (made k es) = row_size es + nary_op_size k
     expr_size (conjunction a b) = expr_size a + 4 + expr_size b
     expr_size (disjunction a b) = expr_size a + 4 + expr_size b
     expr_size (choice c a b) = expr_size c + 2 + expr_size a + expr_size b
@@ -79,7 +91,7 @@ module _ {K : Type 0} where
     expr_height (variable s) = 1
     expr_height (field f) = 1
     expr_height absent = 1
-    expr_height (made k es) = max 1 (row_height es)
+    expr_height (made k es) = max (nary_op_height k) (row_height es)
     expr_height (conjunction a b) = max (expr_height a) (max 2 (expr_height b))
     expr_height (disjunction a b) = max (expr_height a) (max 2 (expr_height b))
     expr_height (choice c a b) = max (expr_height c) (max (expr_height a) (expr_height b))

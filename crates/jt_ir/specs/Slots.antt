@@ -1,8 +1,8 @@
 -- The resolved templates and their meaning. Each name is a slot of the locals or of the globals,
 -- and each macro, block and chain is a routine. `K` represents a constant: its value, or its index
 -- in a pool of values.
-use Rattle.std.specs.Prelude.{ℕ, zero, suc, Bool, List, [], ◌∷◌, ◌++◌, map, Option, Some, None, Result, slice_get}
-use Rattle.std.specs.Prelude.{if◌then◌else◌}
+use Rattle.std.specs.Prelude.{ℕ, zero, suc, Bool, true, false, List, [], ◌∷◌, ◌++◌, map, Option, Some, None, Result}
+use Rattle.std.specs.Prelude.{Err, slice_get, if◌then◌else◌}
 use Rattle.jt_value.specs.Tree as tree
 use Rattle.jt_value.specs.Tree.{Tree}
 use Rattle.jt_value.specs.Pairs.{Pairs}
@@ -15,7 +15,7 @@ use Rattle.jt_op_semantics.specs.Testing.{tested}
 use Rattle.jt_op_semantics.specs.Making.{listed, mapped}
 use Rattle.jt_value.specs.Place.{Place}
 use Rattle.jt_eval.specs.Eval.{Eval, gives, fails, deeper, bind, checked, at}
-use Rattle.jt_eval.specs.Values.{shown, bytes_of, value_in, as_value}
+use Rattle.jt_eval.specs.Values.{shown, bytes_of, value_in, as_value, defined}
 use Rattle.jt_ast.specs.Expressions.{Text}
 use Rattle.jt_ids.specs.declared.loop_field.LoopField.{LoopField}
 use Rattle.jt_eval.specs.Loops.{Loop, loop_field, items_of_value, tree_at}
@@ -35,6 +35,8 @@ pub data NaryOp : Type 0 where
   a_list : NaryOp
   -- The map of alternating keys and values.
   a_map : NaryOp
+  -- The one value itself. An undefined value is the fault Undefined.
+  required : NaryOp
 
 mutual
   pub data SlotExpr (K : Type 0) : Type 0 where
@@ -62,6 +64,11 @@ mutual
     none : SRow K
     item : SlotExpr K → SRow K → SRow K
     aside : ℕ → SlotExpr K → SRow K → SRow K
+
+-- The expression, whose undefined value is a fault if the flag is true.
+abbrev pub required_if : {K : Type 0} → Bool → SlotExpr K → SlotExpr K
+required_if false e = e
+required_if true e = made required (item e none)
 
 -- The target of an assignment: one slot, or slots for the items of the value, each of which may be
 -- missing.
@@ -168,6 +175,8 @@ make fs (test t) vs = as_truth (tested t vs)
 make fs (filter f escaping) vs = fs.operation f escaping vs
 make fs a_list vs = listed vs
 make fs a_map vs = mapped vs
+make fs required (v ∷ []) = defined v
+make fs required vs = Err faults.BadType
 
 abbrev pub valued : Memory → Tree → Eval Valued
 valued memory v = gives (record { value = v; memory = memory })

@@ -5,9 +5,10 @@ use Rattle.jt_ids.specs.OpTable.{op_operands}
 use Rattle.jt_ids.specs.TestTable.{test_values}
 use Rattle.jt_eval.specs.Filters.{Filters}
 use Rattle.jt_ir.specs.Size.{row_count}
-use Rattle.jt_ir.specs.Slots.{NaryOp, operator, test, filter, a_list, a_map, SlotExpr, pooled, variable, field, absent}
-use Rattle.jt_ir.specs.Slots.{made, conjunction, disjunction, choice, invoke, SRow, none, item, aside, SlotStmt}
-use Rattle.jt_ir.specs.Slots.{put_pooled, print, assign, if_else, for_each, capture, run, SBody, end, stmt, Routine}
+use Rattle.jt_ir.specs.Slots.{NaryOp, operator, test, filter, a_list, a_map, required, SlotExpr, pooled, variable}
+use Rattle.jt_ir.specs.Slots.{field, absent, made, conjunction, disjunction, choice, invoke, SRow, none, item, aside}
+use Rattle.jt_ir.specs.Slots.{SlotStmt, put_pooled, print, assign, if_else, for_each, capture, run, SBody, end, stmt}
+use Rattle.jt_ir.specs.Slots.{Routine}
 
 -- Holds if the number is even, so that keys and values alternate.
 abbrev pub InPairs : ℕ → Type 0
@@ -21,6 +22,7 @@ NaryOpTakes fs (test t) n = test_values t ≡ n
 NaryOpTakes fs (filter f escaping) n = IsTrue (fs.takes f n)
 NaryOpTakes fs a_list n = Unit {0}
 NaryOpTakes fs a_map n = InPairs n
+NaryOpTakes fs required n = n ≡ 1
 
 -- Holds if the routine exists and has n parameters.
 abbrev pub HasParameters : {K : Type 0} → Option (Routine K) → ℕ → Type 0

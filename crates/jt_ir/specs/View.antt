@@ -6,7 +6,7 @@ use Rattle.jt_ids.specs.FilterTable.{filter_id}
 use Rattle.jt_ast.specs.Expressions.{Text}
 use Rattle.jt_value.specs.Place as place
 use Rattle.jt_ir.specs.Slots as slots
-use Rattle.jt_ir.specs.Slots.{SRow, SBody}
+use Rattle.jt_ir.specs.Slots.{SRow, SBody, required_if}
 use Rattle.jt_ir.specs.declared.program.Place.{Place}
 use Rattle.jt_ir.specs.declared.program.Slot.{Slot}
 use Rattle.jt_ir.specs.declared.program.Slot.TheVariants as s
@@ -34,6 +34,7 @@ nary_op_view (m.Test t) = slots.test t
 nary_op_view (m.Filter f escaping) = slots.filter (filter_id f) escaping
 nary_op_view m.List = slots.a_list
 nary_op_view m.Map = slots.a_map
+nary_op_view m.Required = slots.required
 
 abbrev pub targets_view : Targets → slots.Targets
 targets_view (t.One s) = slots.one (slot_view s)
@@ -69,18 +70,19 @@ abbrev pub row_view : List (Option ℕ × SlotExpr) → SRow ℕ → SRow ℕ
 row_view [] behind = behind
 row_view (e ∷ es) behind = entry_front e.0 (expr_view e.1) (row_view es behind)
 
--- The expression after one more filter of a tag, and after filters in order.
+-- The expression after one more filter of a tag, and after filters in order. A filter that requires
+-- its input gets no undefined value.
 abbrev pub filter_after : SlotFilter → slots.SlotExpr ℕ → slots.SlotExpr ℕ
 filter_after f e =
     slots.made (slots.filter (filter_id f.filter) f.escaping)
-    (slots.item e (row_view f.row.items slots.none))
+    (slots.item (required_if f.required e) (row_view f.row.items slots.none))
 
 abbrev pub filters_after : List SlotFilter → slots.SlotExpr ℕ → slots.SlotExpr ℕ
 filters_after [] e = e
 filters_after (f ∷ fs) e = filters_after fs (filter_after f e)
 
 abbrev pub filtered_view : Filtered → slots.SlotExpr ℕ
-filtered_view v = filters_after v.filters.items (expr_view v.value)
+filtered_view v = required_if v.required (filters_after v.filters.items (expr_view v.value))
 
 -- A function that puts statements before a body.
 abbrev pub Front : Type 0

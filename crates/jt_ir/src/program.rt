@@ -34,6 +34,8 @@ pub enum NaryOp {
     List,
     /// The map of the values, which alternate keys and values.
     Map,
+    /// The one value itself. An undefined value is a fault.
+    Required,
 }
 
 /// An expression. Arguments are evaluated from left to right. An argument with a number is no value
@@ -74,6 +76,8 @@ pub enum SlotExpr {
 pub struct SlotFilter {
     pub filter: FilterId,
     pub escaping: bool,
+    /// Whether an undefined input is a fault.
+    pub required: bool,
     pub row: Vec<(Option<usize>, SlotExpr)>,
 }
 
@@ -83,6 +87,8 @@ pub struct SlotFilter {
 pub struct Filtered {
     pub value: SlotExpr,
     pub filters: Vec<SlotFilter>,
+    /// Whether an undefined result is a fault.
+    pub required: bool,
 }
 
 /// The target of an assignment.

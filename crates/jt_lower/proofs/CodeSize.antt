@@ -4,11 +4,12 @@ use Rattle.std.proofs.Common.{length-append, rules}
 use Rattle.jt_image.specs.IsCode.{total_len}
 use Rattle.jt_value.specs.Place.{Place}
 use Rattle.jt_ir.specs.Slots as slots
-use Rattle.jt_ir.specs.Slots.{Slot, SlotExpr, SRow, Targets, SlotStmt, SBody, Routine, Program}
+use Rattle.jt_ir.specs.Slots.{Slot, NaryOp, SlotExpr, SRow, Targets, SlotStmt, SBody, Routine, Program}
 use Rattle.jt_lower.specs.Asm.{Asm, nil, one, both, choose, when, each, invoke, flat}
-use Rattle.jt_lower.specs.Lower.{expr_asm, row_asm, stores_asm, take_asm, kept_asm, stmt_asm, body_asm, unit_of}
-use Rattle.jt_lower.specs.Lower.{lowered}
-use Rattle.jt_ir.specs.Size.{expr_size, row_size, targets_size, condition_size, stmt_size, body_size, routines_size}
+use Rattle.jt_lower.specs.Lower.{made_asm, expr_asm, row_asm, stores_asm, take_asm, kept_asm, stmt_asm, body_asm}
+use Rattle.jt_lower.specs.Lower.{unit_of, lowered}
+use Rattle.jt_ir.specs.Size.{row_count, nary_op_size, expr_size, row_size, targets_size, condition_size, stmt_size}
+use Rattle.jt_ir.specs.Size.{body_size, routines_size}
 
 abbrev pub asm_size : Asm → ℕ
 asm_size nil = 0
@@ -26,9 +27,12 @@ flat_size (when a) n = omega (arith, flat_size a (n + 1))
 flat_size (each a) n = search (arith, rules, flat_size a (n + 1), length-append)
 flat_size a n = refl
 
+nary_op_sized : (k : NaryOp) (n : ℕ) (o : Option Place) → asm_size (made_asm o k n) ≡ nary_op_size k
+nary_op_sized k n o = search (arith, rules)
+
 mutual
   expr_sized : (e : SlotExpr ℕ) (o : Option Place) (h : ℕ) → asm_size (expr_asm o e h) ≡ expr_size e
-  expr_sized (slots.made k r) o h = omega (arith, row_sized r o h)
+  expr_sized (slots.made k r) o h = omega (arith, row_sized r o h, nary_op_sized k (row_count r) o)
   expr_sized (slots.conjunction a b) o h = omega (arith, expr_sized a o h, expr_sized b o h)
   expr_sized (slots.disjunction a b) o h = omega (arith, expr_sized a o h, expr_sized b o h)
   expr_sized (slots.choice c a b) o h = omega (arith, expr_sized c o h, expr_sized a o h, expr_sized b o h)

@@ -21,6 +21,7 @@ nary_op_ok (slots.test t) n = test_values t == n
 nary_op_ok (slots.filter f escaping) n = accepts (filter_of f) n
 nary_op_ok slots.a_list n = true
 nary_op_ok slots.a_map n = even n
+nary_op_ok slots.required n = n == 1
 
 abbrev takes_ok : Option (Routine ℕ) → ℕ → Bool
 takes_ok None n = false

@@ -5,8 +5,8 @@ use Rattle.std.specs.Prelude.{nat_le}
 use Rattle.std.specs.Option.{is_some}
 use Rattle.std.proofs.lemmas.Bool.Decides.{nat_tests}
 use Rattle.jt_ir.specs.Slots as slots
-use Rattle.jt_ir.specs.Slots.{SlotExpr, SRow, none}
-use Rattle.jt_ir.specs.Size.{expr_height, row_count, row_height}
+use Rattle.jt_ir.specs.Slots.{NaryOp, SlotExpr, SRow, none}
+use Rattle.jt_ir.specs.Size.{nary_op_height, expr_height, row_count, row_height}
 use Rattle.jt_ir.specs.View.{expr_view, row_view}
 use Rattle.jt_ir.proofs.ExpressionViews.{Entry, row_left}
 
@@ -14,9 +14,13 @@ use Rattle.jt_ir.proofs.ExpressionViews.{Entry, row_left}
 pub both_low : (a b c : ℕ) → nat_le (max a b) c ≡ nat_le a c && nat_le b c
 both_low a b c = grind (arith, nat_tests)
 
+made_some : (k : NaryOp) → 1 ≤ nary_op_height k
+made_some k = search (arith, rules)
+
 -- An expression needs at least one entry, for its value.
 pub height_some : (e : SlotExpr ℕ) → 1 ≤ expr_height e
 height_some (slots.choice c a b) = omega (arith, height_some c)
+height_some (slots.made k es) = omega (arith, made_some k)
 height_some e = omega arith
 
 -- Each value of a sequence is an entry.
@@ -54,8 +58,8 @@ row_more es room i left next e lt is low stays l =
 pub some_left : (e : SlotExpr ℕ) (left : ℕ) → nat_le (expr_height e) left ≡ true → 1 ≤ left
 some_left e left low = let some = height_some e in grind (arith, nat_tests)
 
-pub made_low : (r room : ℕ) → 1 ≤ room → nat_le (max 1 r) room ≡ nat_le r room
-made_low r room some = grind (arith, nat_tests)
+pub made_low : (h r room : ℕ) → h ≤ room → nat_le (max h r) room ≡ nat_le r room
+made_low h r room low = grind (arith, nat_tests)
 
 pub invoke_low : (r room : ℕ) → 1 ≤ room → nat_le (1 + r) room ≡ nat_le r (room - 1)
 invoke_low r room some = grind (arith, nat_tests)

@@ -24,9 +24,14 @@ use Rattle.jt_value.specs.Place.{Place}
 use Rattle.jt_ir.specs.Slots as slots
 use Rattle.jt_ir.specs.Slots.{Slot, local, global, NaryOp, SlotExpr, SRow, Targets, SlotStmt, SBody, Routine, Program}
 use Rattle.jt_lower.specs.Asm.{Asm, nil, one, both, choose, when, each, invoke, flat}
-use Rattle.jt_ir.specs.Size.{row_count, expr_height, row_height, targets_height, condition_height, stmt_height}
-use Rattle.jt_ir.specs.Size.{body_height}
-use Rattle.jt_lower.specs.Lower.{nary_op, flag, load_of, store_of, expr_asm, row_asm, store_if_of, stores_asm, take_asm}
+use Rattle.jt_ids.specs.declared.op_id.OpId.{OpId}
+use Rattle.jt_ids.specs.declared.op_id.OpId.TheVariants as operators
+use Rattle.jt_ids.specs.declared.test_id.TestId.TheVariants as tests
+use Rattle.jt_ids.specs.OpTable.{op_id, op_operands}
+use Rattle.jt_ir.specs.Size.{row_count, nary_op_height, expr_height, row_height, targets_height, condition_height}
+use Rattle.jt_ir.specs.Size.{stmt_height, body_height}
+use Rattle.jt_lower.specs.Lower.{nary_op, made_asm, flag, load_of, store_of, expr_asm, row_asm, store_if_of}
+use Rattle.jt_lower.specs.Lower.{stores_asm, take_asm}
 use Rattle.jt_lower.specs.Lower.{turn_asm, over_asm, kept_asm, stmt_asm, body_asm, unit_of, constant_of, lowered}
 use Rattle.jt_lower.specs.Fits.{OfSlots, OfSome, OfTargets, NaryOpFits, TakesRow, SlotFits, ExprFits, RowFits}
 use Rattle.jt_lower.specs.Fits.{ConditionFits, TextFits, StmtFits, BodyFits, RoutineFits, ProgramFits}
@@ -321,11 +326,37 @@ module _ (p : Program) (count : ℕ) where
       → (accepts (filter_of f) n && nat_lt (flag escaping) 2) ≡ true
   is_filter f n escaping h = search (arith, rules)
 
+  operation_types : (x : OpId) (n : ℕ) (S : Shape) → op_operands x ≡ n
+      → Plainly (op.Op (op_id x)) (pushes n S) (kind.Value ∷ S)
+  operation_types x n S fit u q l room = search (arith, rules, has_operator, makes_one, required)
+
   -- An operation replaces the values of its sequence by one value.
   nary_op_types : (h : NaryOp) (n : ℕ) (S : Shape) → NaryOpFits h n
       → Plainly (nary_op h n) (pushes n S) (kind.Value ∷ S)
-  nary_op_types h n S fit u q l room =
-      search (arith, rules, has_operator, makes_one, has_test, required, eq_true, is_filter, halved)
+  nary_op_types (slots.operator x) n S fit u q l room = operation_types x n S fit u q l room
+  nary_op_types (slots.test t) n S fit u q l room =
+      search (arith, rules, makes_one, has_test, required, eq_true)
+  nary_op_types (slots.filter f escaping) n S fit u q l room = search (arith, rules, makes_one, required, is_filter)
+  nary_op_types slots.a_list n S fit u q l room = makes_one u q n S room
+  nary_op_types slots.a_map n S fit u q l room = search (arith, rules, makes_one, halved)
+  nary_op_types slots.required n S fit u q l room = operation_types operators.Negate n S (sym fit) u q l room
+
+  made_types : (x : NaryOp) (n : ℕ) (o : Option Place) (S : Shape) → NaryOpFits x n
+      → length S + nary_op_height x ≤ max_entries → length S + n ≤ max_entries
+      → Leading (made_asm o x n) (pushes n S) (kind.Value ∷ S)
+  made_types slots.required n o S fit high low =
+      let one_more : length (kind.Value ∷ S) ≤ max_entries = omega (arith, high) in
+      let two_more : length (kind.Value ∷ kind.Value ∷ S) ≤ max_entries = omega (arith, high) in
+      subst (λ i. Leading (made_asm o slots.required i) (pushes i S) (kind.Value ∷ S)) (sym fit) (
+        kind.Value ∷ kind.Value ∷ S,
+        (one_more, λ u q l room. goes u q (kind.Value ∷ kind.Value ∷ S) room),
+        (
+          kind.Value ∷ kind.Value ∷ S,
+          (two_more, nary_op_types (slots.test tests.Undefined) 1 (kind.Value ∷ S) refl),
+          (kind.Value ∷ S, refl, two_more, refl, (one_more, nary_op_types slots.required 1 S refl)),
+        ),
+      )
+  made_types x n o S fit high low = search (arith, rules, stack_long, nary_op_types)
 
   -- The instruction that pushes a field of the loop below `h` entries is typed.
   gets : (x : LoopField) (h : ℕ) (S : Shape) → slice_get S h ≡ Some kind.Frame
@@ -364,7 +395,7 @@ module _ (p : Program) (count : ℕ) where
     expr_types (slots.field x) o true h S f fr le = (omega arith, gets x h S fr)
     expr_types slots.absent o inside h S f fr le = absurd f
     expr_types (slots.made x r) o inside h S f fr le =
-        search (arith, rules, stack_long, row_room, nary_op_types, row_types r o inside h)
+        search (arith, rules, row_room, made_types, row_types r o inside h)
     expr_types (slots.conjunction a b) o inside h S f fr le =
         let one_more : length (kind.Value ∷ S) ≤ max_entries = omega (arith, height_some a) in
         let two_more : length (kind.Value ∷ kind.Value ∷ S) ≤ max_entries = omega arith in (

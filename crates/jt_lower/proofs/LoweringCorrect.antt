@@ -20,19 +20,22 @@ use Rattle.jt_image.specs.Config.{Frame, StackEntry, value, frame, capture, Stat
 use Rattle.jt_ids.specs.LoopTable.{field_of, field_id}
 use Rattle.jt_image.specs.Loops.{trees_of, loop_over, item_at, loop_field_value}
 use Rattle.jt_image.specs.Step as step
-use Rattle.jt_image.specs.Ids.{operator_of, filter_of, test_of}
+use Rattle.jt_image.specs.Ids.{operator_of, operands_of, filter_of, test_of}
 use Rattle.jt_image.specs.Step.{broken, goes, plain, as_frame, on_values, push_given, loop_field_or_undefined, piled}
 use Rattle.jt_image.specs.Step.{spreads, unpacks, begins, makes, operated, filtered_by, tested_by, with_entries}
 use Rattle.jt_image.specs.Step.{put_printed, constant_value, text_of}
 use Rattle.jt_ids.specs.declared.op_id.OpId.{OpId}
+use Rattle.jt_ids.specs.declared.op_id.OpId.TheVariants as operators
 use Rattle.jt_ids.specs.declared.test_id.TestId.{TestId}
+use Rattle.jt_ids.specs.declared.test_id.TestId.TheVariants as tests
+use Rattle.jt_op_semantics.specs.Testing.{is_undefined}
 use Rattle.jt_ids.specs.OpTable.{op_id}
 use Rattle.jt_ids.specs.TestTable.{test_id}
 use Rattle.jt_op_semantics.specs.Making.{listed, mapped}
 use Rattle.jt_ir.specs.Takes.{InPairs}
 use Rattle.jt_value.specs.Place.{Place}
 use Rattle.jt_eval.specs.Eval.{Eval, gives, fails, deeper, bind, checked, at}
-use Rattle.jt_eval.specs.Values.{shown, shown_text, bytes_of, as_value}
+use Rattle.jt_eval.specs.Values.{shown, shown_text, bytes_of, as_value, defined}
 use Rattle.jt_ast.specs.Expressions.{Text}
 use Rattle.jt_eval.specs.TheFilters.{the_filters}
 use Rattle.jt_ids.specs.declared.loop_field.LoopField.{LoopField}
@@ -41,10 +44,11 @@ use Rattle.jt_ir.specs.Slots as slots
 use Rattle.jt_ir.specs.Slots.{Slot, local, global, NaryOp, SlotExpr, SRow, Targets, SlotStmt, SBody, Program, Memory}
 use Rattle.jt_ir.specs.Slots.{Valued, Listed, Written, SCalls, load, put_at, store, store_if, store_each, take, make}
 use Rattle.jt_ir.specs.Slots.{valued, sturns, seval_loop, in_front, svalue, svalues, skept, smeaning, smeanings}
-use Rattle.jt_lower.specs.Asm.{Asm, one, both, choose, when, each, invoke, AsmEval, does, bad, and_then, of_plain}
-use Rattle.jt_lower.specs.Asm.{turns, of_written, run}
+use Rattle.jt_lower.specs.Asm.{Asm, one, both, choose, when, each, invoke, AsmEval, does, stops, bad, and_then}
+use Rattle.jt_lower.specs.Asm.{of_plain, turns, of_written, run}
 use Rattle.jt_ir.specs.Size.{row_count}
-use Rattle.jt_lower.specs.Lower.{half, nary_op, flag, load_of, store_of, expr_asm, row_asm, store_if_of, stores_asm}
+use Rattle.jt_lower.specs.Lower.{half, required_asm, made_asm, flag, load_of, store_of, expr_asm, row_asm}
+use Rattle.jt_lower.specs.Lower.{store_if_of, stores_asm}
 use Rattle.jt_lower.specs.Lower.{take_asm, turn_asm, over_asm, kept_asm, stmt_asm, body_asm, unit_of, lowered}
 use Rattle.jt_lower.specs.Fits.{OfSlots, OfSome, OfTargets, NaryOpFits, TakesRow, SlotFits, ExprFits, RowFits}
 use Rattle.jt_lower.specs.Fits.{ConditionFits, StmtFits, BodyFits}
@@ -256,10 +260,56 @@ module _ (p : Program) (call : SCalls) (has : HasPool (lowered p) p.pool) (keep 
       (bind (checked (operate vs)) (valued m))
   made_by n operate vs q es bs out m e w = search (arith, rules, same_run, popped_all, checked_does)
 
+  -- The test replaces the copy of the value.
+  copy_tested : (v : Tree) (q : Option Place) (es : List StackEntry) (bs : List (List ℕ)) (m : Memory)
+      → code (one q (op.Test (test_id tests.Undefined) 1)) (at_bufs (value v ∷ value v ∷ es) bs m)
+      ≡ does (at_bufs (value (tree.truth_value (is_undefined v)) ∷ value v ∷ es) bs m)
+  copy_tested v q es bs m =
+      ap (λ x. of_plain q (makes 1 (tested_by x) (at_bufs (value v ∷ value v ∷ es) bs m))) (has_test tests.Undefined)
+
+  -- The operator fails for undefined.
+  operator_fails : (q : Option Place) (es : List StackEntry) (bs : List (List ℕ)) (m : Memory)
+      → code (one q (op.Op (op_id operators.Negate))) (at_bufs (value tree.undefined ∷ es) bs m)
+      ≡ stops faults.Undefined q
+  operator_fails q es bs m =
+      ap (λ x. of_plain q (makes (operands_of x) (operated x) (at_bufs (value tree.undefined ∷ es) bs m)))
+      (has_operator operators.Negate)
+
+  -- Only undefined reaches the operator.
+  undefined_fails : (v : Tree) (q : Option Place) (es : List StackEntry) (bs : List (List ℕ)) (out : Text) (m : Memory)
+      → Kept out m
+      → Does q (KeptValue out) (ValueOn es bs)
+      (code (when (one q (op.Op (op_id operators.Negate))))
+      (at_bufs (value (tree.truth_value (is_undefined v)) ∷ value v ∷ es) bs m))
+      (bind (checked (defined v)) (valued m))
+  undefined_fails tree.undefined q es bs out m w = operator_fails q es bs m
+  undefined_fails v q es bs out m w = search (arith, rules)
+
+  required_does : (v : Tree) (q : Option Place) (es : List StackEntry) (bs : List (List ℕ)) (out : Text) (m : Memory)
+      → Kept out m
+      → Does q (KeptValue out) (ValueOn es bs)
+      (code (required_asm q) (at_bufs (value v ∷ es) bs m)) (bind (checked (defined v)) (valued m))
+  required_does v q es bs out m w =
+      same_run q (KeptValue out) (ValueOn es bs) _
+      (code (when (one q (op.Op (op_id operators.Negate))))
+      (at_bufs (value (tree.truth_value (is_undefined v)) ∷ value v ∷ es) bs m))
+      (bind (checked (defined v)) (valued m))
+      (ap (λ x. and_then x (code (when (one q (op.Op (op_id operators.Negate)))))) (copy_tested v q es bs m))
+      (undefined_fails v q es bs out m w)
+
+  need_does : (vs : List Tree) (q : Option Place) (es : List StackEntry) (bs : List (List ℕ)) (out : Text) (m : Memory)
+      → length vs ≡ 1 → Kept out m
+      → Does q (KeptValue out) (ValueOn es bs)
+      (code (required_asm q) (at_bufs (piled vs es) bs m))
+      (bind (checked (make the_filters slots.required vs)) (valued m))
+  need_does (v ∷ []) q es bs out m e w = required_does v q es bs out m w
+  need_does [] q es bs out m e w = absurd (omega arith)
+  need_does (v ∷ u ∷ vs) q es bs out m e w = absurd (omega arith)
+
   made_does : (h : NaryOp) (n : ℕ) (vs : List Tree) (q : Option Place) (es : List StackEntry) (bs : List (List ℕ))
       (out : Text) (m : Memory)
       → NaryOpFits h n → length vs ≡ n → Kept out m
-      → Does q (KeptValue out) (ValueOn es bs) (of_plain q (plain k (nary_op h n) (at_bufs (piled vs es) bs m)))
+      → Does q (KeptValue out) (ValueOn es bs) (code (made_asm q h n) (at_bufs (piled vs es) bs m))
       (bind (checked (make the_filters h vs)) (valued m))
   unfolding the_filters
   made_does (slots.operator x) n vs q es bs out m fit e w = search (arith, rules, same_run, has_operator, made_by)
@@ -271,6 +321,7 @@ module _ (p : Program) (call : SCalls) (has : HasPool (lowered p) p.pool) (keep 
   made_does slots.a_list n vs q es bs out m fit e w = made_by n listed vs q es bs out m e w
   made_does slots.a_map n vs q es bs out m fit e w =
       made_by (2 * half n) mapped vs q es bs out m (e ∙ sym (halved n fit)) w
+  made_does slots.required n vs q es bs out m fit e w = need_does vs q es bs out m (e ∙ fit) w
 
   -- ---- calls
 
@@ -340,7 +391,7 @@ module _ (p : Program) (call : SCalls) (has : HasPool (lowered p) p.pool) (keep 
     expr_does slots.absent q inside h l es bs out m fit fr w opened = absurd fit
     expr_does (slots.made x r) q inside h l es bs out m fit fr w opened =
         then_does q (KeptRow out (row_count r)) (RowOn es bs) (KeptValue out) (ValueOn es bs)
-        (code (row_asm q r h) (at_bufs es bs m)) (MeansRow r l m) (code (one q (nary_op x (row_count r))))
+        (code (row_asm q r h) (at_bufs es bs m)) (MeansRow r l m) (code (made_asm q x (row_count r)))
         (λ y. bind (checked (make the_filters x y.values)) (valued y.memory))
         (row_does r q inside h l es bs out m fit.1 fr w opened)
         (λ y j. made_does x (row_count r) y.values q es bs out y.memory fit.0 j.1 j.0)

@@ -8,6 +8,7 @@ use Rattle.std.proofs.lemmas.Option.{slice_get_within}
 use Rattle.std.proofs.lemmas.Bool.Decides.{nat_tests}
 use Rattle.jt_ids.specs.declared.op_id.OpId.{OpId}
 use Rattle.jt_ids.specs.declared.test_id.TestId.{TestId}
+use Rattle.jt_ids.specs.declared.test_id.TestId.TheVariants as tests
 use Rattle.jt_ids.specs.OpTable.{op_id}
 use Rattle.jt_ids.specs.TestTable.{test_id}
 use Rattle.jt_ids.specs.declared.filter_id.FilterId.{FilterId}
@@ -28,7 +29,8 @@ use Rattle.jt_ir.specs.Size.{body_height}
 use Rattle.jt_constants.specs.Merged.{moved_unit}
 use Rattle.jt_constants.proofs.MergeIsNoLarger.{units_len, units_room}
 use Rattle.jt_lower.specs.Asm.{Asm, nil, one, both, choose, when, each, invoke, flat}
-use Rattle.jt_lower.specs.Lower.{half, flag, nary_op, load_of, store_of, store_if_of, expr_asm, row_asm, stores_asm}
+use Rattle.jt_lower.specs.Lower.{half, flag, nary_op, made_asm, load_of, store_of, store_if_of, expr_asm, row_asm}
+use Rattle.jt_lower.specs.Lower.{stores_asm}
 use Rattle.jt_lower.specs.Lower.{take_asm, kept_asm, stmt_asm, body_asm, unit_of, compiled}
 use Rattle.jt_lower.specs.Fits.{OfSlots, OfSome, OfTargets, NaryOpFits, TakesRow, SlotFits, ExprFits, RowFits}
 use Rattle.jt_lower.specs.Fits.{ConditionFits, StmtFits, BodyFits, RoutineFits, ProgramFits}
@@ -89,6 +91,11 @@ half_le (suc (suc n)) = omega (arith, half_le n)
 nary_op_fits : (k : NaryOp) (n : ℕ) → NaryOpFits k n → n ≤ max_entries → IsInstruction (nary_op k n)
 nary_op_fits k n takes room = search (arith, rules, op_fits, test_fits, accepted_fits, flag_fits, half_le)
 
+made_fits : (k : NaryOp) (n : ℕ) (o : Option Place) → NaryOpFits k n → n ≤ max_entries → Plain (made_asm o k n)
+made_fits slots.required n o takes room =
+    (tt, ((test_fits tests.Undefined, omega arith), nary_op_fits slots.required n takes room))
+made_fits k n o takes room = search (arith, rules, nary_op_fits)
+
 -- ---- instructions that are no jumps
 
 module _ (p : Program) (locals : ℕ) (pool : length p.pool ≤ 2 ^ 32) (globals : p.globals ≤ 2 ^ 32)
@@ -111,7 +118,7 @@ module _ (p : Program) (locals : ℕ) (pool : length p.pool ≤ 2 ^ 32) (globals
     expr_plain inside slots.absent o h f low = tt
     expr_plain inside (slots.made k es) o h f low = (
       row_plain inside es o h f.1 (omega (arith, low)),
-      nary_op_fits k (row_count es) f.0 (omega (arith, low, row_room es)),
+      made_fits k (row_count es) o f.0 (omega (arith, low, row_room es)),
     )
     expr_plain inside (slots.conjunction a b) o h f low = (
       expr_plain inside a o h f.0 (omega (arith, low)),

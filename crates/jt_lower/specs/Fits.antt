@@ -21,6 +21,7 @@ NaryOpFits (slots.test t) n = test_values t ≡ n
 NaryOpFits (slots.filter f escaping) n = IsTrue (accepts (filter_of f) n)
 NaryOpFits slots.a_list n = Unit {0}
 NaryOpFits slots.a_map n = InPairs n
+NaryOpFits slots.required n = n ≡ 1
 
 -- The routine of a call exists and takes `n` values.
 pub record TakesRow (rs : List (Routine ℕ)) (u : ℕ) (n : ℕ) : Type 0 where

@@ -3,6 +3,8 @@ use Rattle.std.specs.Prelude.{ℕ, zero, suc, Bool, true, false, List, [], ◌�
 use Rattle.std.specs.List.{flat_map}
 use Rattle.jt_ids.specs.OpTable.{op_id}
 use Rattle.jt_ids.specs.TestTable.{test_id}
+use Rattle.jt_ids.specs.declared.op_id.OpId.TheVariants as operators
+use Rattle.jt_ids.specs.declared.test_id.TestId.TheVariants as tests
 use Rattle.jt_image.specs.declared.instruction.Instruction.{Instruction}
 use Rattle.jt_image.specs.declared.instruction.Instruction.TheVariants as op
 use Rattle.jt_ids.specs.LoopTable.{field_id}
@@ -29,13 +31,26 @@ abbrev pub flag : Bool → ℕ
 flag true = 1
 flag false = 0
 
--- The instruction that makes one value of `n` values.
+-- The instruction that makes one value of `n` values. For a required value it is an operator that
+-- fails for undefined.
 abbrev pub nary_op : NaryOp → ℕ → Instruction
 nary_op (slots.operator o) n = op.Op (op_id o)
 nary_op (slots.test t) n = op.Test (test_id t) n
 nary_op (slots.filter f escaping) n = op.Filter f n (flag escaping)
 nary_op slots.a_list n = op.MakeList n
 nary_op slots.a_map n = op.MakeMap (half n)
+nary_op slots.required n = op.Op (op_id operators.Negate)
+
+-- The check of the value on top, which stays there. Only undefined reaches the operator, which fails.
+abbrev pub required_asm : Option Place → Asm
+required_asm o =
+    both (one o op.Dup)
+    (both (one o (op.Test (test_id tests.Undefined) 1)) (when (one o (nary_op slots.required 1))))
+
+-- The code that makes one value of `n` values.
+abbrev pub made_asm : Option Place → NaryOp → ℕ → Asm
+made_asm o slots.required n = required_asm o
+made_asm o k n = one o (nary_op k n)
 
 abbrev pub load_of : Slot → Instruction
 load_of (local i) = op.Load i
@@ -53,7 +68,7 @@ abbrev mutual
   expr_asm o (slots.variable s) h = one o (load_of s)
   expr_asm o (slots.field f) h = one o (op.LoopGet (field_id f) h)
   expr_asm o slots.absent h = nil
-  expr_asm o (slots.made k es) h = both (row_asm o es h) (one o (nary_op k (row_count es)))
+  expr_asm o (slots.made k es) h = both (row_asm o es h) (made_asm o k (row_count es))
   -- The right operand replaces the left one.
   expr_asm o (slots.conjunction a b) h =
       both (expr_asm o a h)

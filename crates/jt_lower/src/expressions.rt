@@ -1,15 +1,19 @@
 //! Emits the code of resolved expressions.
 
-ghost use Rattle.std.specs.Prelude.{◌≡◌};
+ghost use Rattle.std.specs.Prelude.{◌≡◌, ℕ, List, OnOk};
+ghost use Rattle.jt_ast.specs.Expressions.{Text};
+ghost use Rattle.jt_ir.specs.Slots as slots;
 ghost use Rattle.jt_ir.specs.Size.{row_count};
-ghost use Rattle.jt_ir.specs.Slots.{none};
-ghost use Rattle.jt_ir.specs.View.{expr_view, row_view, filtered_view};
+ghost use Rattle.jt_ir.specs.Slots.{none, required_if};
+ghost use Rattle.jt_ir.specs.View.{nary_op_view, expr_view, row_view, filtered_view};
 ghost use Rattle.jt_lower.specs.Asm.{choose};
-ghost use Rattle.jt_lower.specs.Lower.{expr_asm, row_asm};
-ghost use Rattle.jt_lower.specs.Emission.{tag_view, side_asm, instead_asm, PutsAt};
+ghost use Rattle.jt_lower.specs.Lower.{made_asm, required_asm, expr_asm, row_asm};
+ghost use Rattle.jt_lower.specs.Emission.{tag_view, side_asm, instead_asm, Puts, PutsFor};
+ghost use Rattle.jt_lower.specs.Emission.{PutsAt};
 
 use crate::emitter::Emitter;
 use crate::instructions::{call_of, constant_of, flag, load_of, loop_get_of, made_of, store_of};
+use jt_ids::TestId;
 use jt_image::Instruction;
 use jt_ir::{Filtered, NaryOp, Place, Slot, SlotExpr};
 use std::alloc::AllocError;
@@ -36,7 +40,7 @@ pub fn emit_expression(
         SlotExpr::Absent => Ok(()),
         SlotExpr::Made(made, row) => {
             emit_row(code, tag, row, above)?;
-            code.put(tag, made_of(*made, count_values(row)))?;
+            emit_made(code, tag, *made, count_values(row))?;
             Ok(())
         }
         SlotExpr::Conjunction(left, right) => {
@@ -68,6 +72,57 @@ pub fn emit_expression(
             Ok(())
         }
     }
+}
+
+/// Emits an operation on the `count` values on top.
+fn emit_made(
+    code: &mut Emitter,
+    tag: Option<Place>,
+    made: NaryOp,
+    count: usize,
+) -> Result<(), AllocError>
+    ensures { PutsFor code.old (λ templates. made_asm (tag_view templates tag)
+        (nary_op_view made) count) result code.new }
+{
+    match made {
+        NaryOp::Required => emit_required(code, tag),
+        _ => code.put(tag, made_of(made, count)),
+    }
+}
+
+/// Emits the check of the top value, which stays there: a copy, its test, and an operator that
+/// fails and is executed only if the value is undefined.
+fn emit_required(code: &mut Emitter, tag: Option<Place>) -> Result<(), AllocError>
+    ensures { PutsFor code.old (λ templates. required_asm (tag_view templates tag))
+        result code.new }
+{
+    let undefined = Instruction::Test {
+        test: TestId::Undefined.id(),
+        values: 1,
+    };
+    code.put(tag, Some(Instruction::Dup))?;
+    code.put(tag, Some(undefined))?;
+    let choice = code.begin_choice()?;
+    code.put(tag, made_of(NaryOp::Required, 1))?;
+    code.end_when(choice);
+    Ok(())
+}
+
+/// Emits the check of the value of an expression, if `required` is set.
+fn emit_if_required(
+    code: &mut Emitter,
+    tag: Option<Place>,
+    required: bool,
+) -> Result<(), AllocError>
+    ensures { OnOk result ((templates : List Text) (before : Emitter) (e : slots.SlotExpr ℕ) (h : ℕ)
+        → Puts templates before (expr_asm (tag_view templates tag) e h) code.old
+        → Puts templates before (expr_asm (tag_view templates tag) (required_if required e) h)
+        code.new) }
+{
+    if required {
+        emit_required(code, tag)?;
+    }
+    Ok(())
 }
 
 /// Emits a test of the top value, and an expression that replaces this value if its truth is `so`.
@@ -188,6 +243,7 @@ pub fn emit_filtered(
 {
     emit_expression(code, tag, &filtered.value, above)?;
     for filter in &filtered.filters {
+        emit_if_required(code, tag, filter.required)?;
         emit_row(code, tag, &filter.row, above.saturating_add(1))?;
         let made = NaryOp::Filter {
             filter: filter.filter,
@@ -195,5 +251,6 @@ pub fn emit_filtered(
         };
         code.put(tag, made_of(made, count_values(&filter.row) + 1))?;
     }
+    emit_if_required(code, tag, filtered.required)?;
     Ok(())
 }

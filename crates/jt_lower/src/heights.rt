@@ -1,11 +1,11 @@
 //! Checks the number of stack entries that the code of expressions needs above the existing ones.
 
-ghost use Rattle.std.specs.Prelude.{◌≡◌, nat_le};
-ghost use Rattle.jt_ir.specs.Size.{expr_height, row_height};
+ghost use Rattle.std.specs.Prelude.{◌≡◌, ◌||◌, not, nat_le};
+ghost use Rattle.jt_ir.specs.Size.{nary_op_height, expr_height, row_height};
 ghost use Rattle.jt_ir.specs.Slots.{none};
-ghost use Rattle.jt_ir.specs.View.{expr_view, row_view, filtered_view};
+ghost use Rattle.jt_ir.specs.View.{nary_op_view, expr_view, row_view, filtered_view};
 
-use jt_ir::{Filtered, SlotExpr};
+use jt_ir::{Filtered, NaryOp, SlotExpr};
 
 /// Returns whether an expression needs at most `room` stack entries.
 #[cycle(heights)]
@@ -15,7 +15,7 @@ pub fn fits_expression(expr: &SlotExpr, room: usize) -> bool
     match expr {
         SlotExpr::Pooled(_) | SlotExpr::Variable(_) | SlotExpr::Field(_) | SlotExpr::Absent => room
             >= 1,
-        SlotExpr::Made(_, row) => room >= 1 && fits_row(row, room),
+        SlotExpr::Made(made, row) => room >= height_of(*made) && fits_row(row, room),
         SlotExpr::Conjunction(left, right) | SlotExpr::Disjunction(left, right) => {
             room >= 2 && fits_expression(left, room) && fits_expression(right, room)
         }
@@ -29,6 +29,17 @@ pub fn fits_expression(expr: &SlotExpr, room: usize) -> bool
                 && fits_expression(other, room)
         }
         SlotExpr::Invoke { row, .. } => room >= 1 && fits_row(row, room - 1),
+    }
+}
+
+/// Returns the number of stack entries that an operation needs for its result, or for the copy that
+/// it tests.
+fn height_of(made: NaryOp) -> usize
+    ensures { result ≡ nary_op_height (nary_op_view made) }
+{
+    match made {
+        NaryOp::Required => 2,
+        _ => 1,
     }
 }
 
@@ -50,6 +61,14 @@ pub fn fits_row(row: &[(Option<usize>, SlotExpr)], room: usize) -> bool
     true
 }
 
+/// Returns whether the check of a value needs at most `room` stack entries, if `required` is set.
+/// The check copies the value.
+fn fits_required(required: bool, room: usize) -> bool
+    ensures { result ≡ not required || nat_le 2 room }
+{
+    !required || room >= 2
+}
+
 /// Returns whether a value and the filters after it need at most `room` stack entries. The
 /// arguments of a filter lie above its value.
 pub fn fits_filtered(filtered: &Filtered, room: usize) -> bool
@@ -59,9 +78,9 @@ pub fn fits_filtered(filtered: &Filtered, room: usize) -> bool
         return false;
     }
     for filter in &filtered.filters {
-        if !fits_row(&filter.row, room - 1) {
+        if !fits_required(filter.required, room) || !fits_row(&filter.row, room - 1) {
             return false;
         }
     }
-    true
+    fits_required(filtered.required, room)
 }

@@ -7,7 +7,7 @@ ghost use Rattle.jt_ir.specs.View.{slot_view, nary_op_view};
 ghost use Rattle.jt_lower.specs.Lower.{nary_op, flag, load_of, store_of};
 ghost use Rattle.jt_lower.specs.Emission.{Given, StandsFor};
 
-use jt_ids::LoopField;
+use jt_ids::{LoopField, OpId};
 use jt_image::Instruction;
 use jt_ir::{NaryOp, Slot};
 
@@ -106,7 +106,8 @@ pub fn flag(escaping: bool) -> u8
     if escaping { 1 } else { 0 }
 }
 
-/// Returns the instruction that makes one value of `count` values.
+/// Returns the instruction that makes one value of `count` values. For a required value it is an
+/// operator that fails for undefined.
 #[tactic(auto, using(crate::proofs::RowCode::halved))]
 pub(crate) fn made_of(made: NaryOp, count: usize) -> Option<Instruction>
     ensures { Given result (nary_op (nary_op_view made) count) }
@@ -126,5 +127,8 @@ pub(crate) fn made_of(made: NaryOp, count: usize) -> Option<Instruction>
         }),
         NaryOp::List => field(count).map(|items| Instruction::MakeList { items }),
         NaryOp::Map => field(count / 2).map(|entries| Instruction::MakeMap { entries }),
+        NaryOp::Required => Some(Instruction::Op {
+            operator: OpId::Negate.id(),
+        }),
     }
 }

@@ -7,6 +7,8 @@ pub mod OutputPrefix
 pub mod DrainedOutput
 pub mod EscapedLength
 pub mod SlicesAddUp
+pub mod UseAddsUp
+pub mod MeteredSlices
 pub mod ContextsAlike
 pub mod SinkWrites
 pub mod FastPathCorrect
@@ -20,6 +22,7 @@ pub mod TopValues
 pub mod MapSize
 pub mod AllocationPoints
 mod CacheCorrect
+pub mod CheckCorrect
 mod LoadedMember
 mod MemberCorrect
 mod MemberFound

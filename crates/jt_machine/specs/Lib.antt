@@ -10,4 +10,7 @@ pub mod SessionCode
 pub mod StageView
 pub mod Growing
 pub mod ConstantCache
+pub mod Metering
+pub mod MeteringCode
+pub mod MeterRoom
 pub mod internal

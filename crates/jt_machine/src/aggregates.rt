@@ -468,8 +468,8 @@ fn filter_by(id: u8) -> Option<FilterId>
     FilterId::by_id(id)
 }
 
-// Returns the test of an id.
-fn test_by(id: u8) -> Option<TestId>
+/// Returns the test of an id.
+pub(crate) fn test_by(id: u8) -> Option<TestId>
     ensures { result ≡ test_of id }
 {
     TestId::by_id(id)

@@ -32,6 +32,22 @@ fn faulted(alloc: Global, fault: Fault, place: Option<PlaceRef<'_>>) -> Result<O
     }
 }
 
+/// Returns the place of the instruction at `point`, if both exist.
+pub(crate) fn place_at<C: Code>(
+    alloc: Global,
+    code: &C,
+    unit: usize,
+    point: usize,
+) -> Result<Option<Place>, NoMemory>
+    ensures { IfOk result
+        (λ p. option_map place_view p ≡ place_there (C.code code.now) unit point) }
+{
+    match code.place(unit, point) {
+        Some(place) => Ok(Some(owned(alloc, place)?)),
+        None => Ok(None),
+    }
+}
+
 /// Returns the outcome. A fault gets the place of the instruction at `point`.
 pub(crate) fn with_place<C: Code>(
     alloc: Global,

@@ -3,6 +3,7 @@
 //! - runs: `run`, a whole run in one call.
 //! - writing, sink: `run_to`, a run that writes its text into a sink.
 //! - machine: `Machine`, a run that stops and goes on later.
+//! - metered_run: `MeteredRun`, such a run of a shared image, which counts what it uses.
 //! - step: one step, with a module for each kind of instruction.
 //! - fast_path, fast_items, fast_output, numbers: cheap instructions, many of them in one call.
 //! - constants: text constants, each built once in a run.
@@ -28,8 +29,10 @@ mod loops;
 mod machine;
 mod maps;
 mod measure;
+mod metered_run;
 mod numbers;
 mod outcome;
+mod required;
 mod runs;
 mod sink;
 mod stack;
@@ -40,6 +43,7 @@ mod unpacking;
 mod writing;
 
 pub use machine::{Machine, session_laws};
+pub use metered_run::{MeteredRun, Used, metering_laws};
 pub use outcome::{Ended, Outcome, Place, Progress};
 pub use runs::{run, run_view};
 pub use sink::{IoSink, Sink, SinkFailed, put_all};

@@ -1,5 +1,5 @@
 //! Defines the state of a run between two instructions.
-ghost use Rattle.std.specs.Prelude.{◌≡◌, ◌<◌, length, slice_set};
+ghost use Rattle.std.specs.Prelude.{◌≡◌, ◌+◌, ◌<◌, ◌^◌, length, slice_set};
 ghost use Rattle.jt_value.specs.View.{view};
 ghost use Rattle.jt_machine.specs.Entries.{values_view};
 ghost use Rattle.jt_machine.specs.InstructionSteps as part;
@@ -31,6 +31,15 @@ pub(crate) enum Table {
 }
 
 impl State {
+    /// Returns the number of open calls.
+    #[inline(always)]
+    pub(crate) fn open_calls(&self) -> u32
+        requires { self.now.left.depth + length self.now.stack.callers < 2 ^ 32 }
+        ensures { result ≡ length self.now.stack.callers }
+    {
+        self.stack.waiting() as u32
+    }
+
     /// Returns the values of a table.
     #[inline(always)]
     pub(crate) fn values(&self, table: Table) -> &[Value]

@@ -11,6 +11,7 @@ options trim strip = record {
   lstrip_blocks = strip;
   keep_trailing_newline = false;
   autoescape = true;
+  strict = false;
 }
 
 -- An LF and a space are trimmed before `{%-`.

@@ -3,7 +3,7 @@
 use crate::files::{FileError, Files};
 use std::alloc::{AllocError, AllocFailed};
 use std::fs::{File, Metadata, OpenFile, OpenOptions};
-use std::io::{Read, Write};
+use std::io::{BufReader, Read, Write};
 use std::os::unix::fs::{MetadataExt, OpenOptionsExt};
 use std::rt::Runtime;
 use std::{fs, io};
@@ -132,6 +132,16 @@ fn replace<R: Runtime>(
     Ok(is_renamed)
 }
 
+/// The path of standard input where a file is read, and of standard output where one is written.
+const STANDARD: &str = "-";
+
+/// Returns the bytes of standard input.
+fn read_input<R: Runtime + AllocGlobal>(rt: &R) -> Result<Vec<u8>, FileError> {
+    let mut bytes = Vec::new(rt.alloc());
+    BufReader::new(rt.alloc(), rt.reader())?.read_to_end(&mut bytes)?;
+    Ok(bytes)
+}
+
 impl<R: Runtime + AllocGlobal> Files for SystemFiles<'_, R> {
     ghost use Rattle.jt_program.specs.Files.{anything};
 
@@ -154,6 +164,9 @@ impl<R: Runtime + AllocGlobal> Files for SystemFiles<'_, R> {
     }
 
     fn read(&mut self, path: &str) -> Result<Vec<u8>, FileError> {
+        if path == STANDARD {
+            return read_input(self.rt);
+        }
         let mut file = fs::open(self.rt, path)?;
         let mut bytes = Vec::with_capacity(self.rt.alloc(), room_for(&file))?;
         file.read_to_end(&mut bytes)?;
@@ -164,6 +177,9 @@ impl<R: Runtime + AllocGlobal> Files for SystemFiles<'_, R> {
     // `path` with `.part` after it, which is renamed. If that is not possible, the file at `path`
     // is written in place.
     fn write(&mut self, path: &str, bytes: &[u8]) -> Result<(), FileError> {
+        if path == STANDARD {
+            return Ok(io::writer(self.rt).write_all(bytes)?);
+        }
         let part = format!(in self.rt.alloc(); "{path}.part")?;
         if let Some(file) = new_part(self.rt, part.as_str(), path)
             && replace(self.rt, file, part.as_str(), path, bytes)?

@@ -25,4 +25,5 @@ usual_options =
       lstrip_blocks = false;
       keep_trailing_newline = false;
       autoescape = true;
+      strict = false;
     }

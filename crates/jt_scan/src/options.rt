@@ -15,10 +15,14 @@ pub struct Options {
     pub keep_trailing_newline: bool,
     /// Whether escaping is on at the start of the template.
     pub autoescape: bool,
+    /// Whether an undefined value is a fault where it is printed, iterated over, joined by `~`, or
+    /// the input of a filter other than `default`.
+    pub strict: bool,
 }
 
 impl Options {
-    /// Returns the default options: escaping is on, and an LF at the end is dropped.
+    /// Returns the default options: escaping is on, an LF at the end is dropped, and undefined
+    /// values are no faults.
     pub fn new() -> Options
         ensures { result ≡ usual_options }
     {
@@ -27,6 +31,7 @@ impl Options {
             lstrip_blocks: false,
             keep_trailing_newline: false,
             autoescape: true,
+            strict: false,
         }
     }
 }

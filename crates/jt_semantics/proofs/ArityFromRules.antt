@@ -23,7 +23,7 @@ use Rattle.jt_semantics.specs.Layout.{Table, slot_in, block_parameters, numbered
 use Rattle.jt_ir.specs.Pool.{Constant, known}
 use Rattle.jt_semantics.specs.Resolve.{followed, reads, handed_on, StaticEnv, place, bound_all, copied, scoped}
 use Rattle.jt_semantics.specs.Resolve.{first_body, resolved_condition, resolved_filters, resolved_values, placed_body}
-use Rattle.jt_semantics.specs.Resolve.{resolved_stmt, resolved_body, resolved_choice}
+use Rattle.jt_semantics.specs.Resolve.{resolved, resolved_stmt, resolved_body, resolved_choice}
 use Rattle.jt_uses.specs.Uses.{bound, expr_uses, row_uses, pair_uses, condition_uses, filter_call_use, filter_call_uses}
 use Rattle.jt_uses.specs.Uses.{stmt_uses, body_uses, branch_uses, place_at, before_loop, inside_scope, inside_loop}
 use Rattle.jt_uses.specs.Uses.{keys_bound}
@@ -33,7 +33,7 @@ use Rattle.jt_semantics.proofs.CallInvariant.{Included}
 use Rattle.jt_semantics.proofs.RoutineLookup.{chain_is, body_is}
 use Rattle.jt_semantics.proofs.EnvLookup.{no_both}
 use Rattle.jt_semantics.proofs.KeptUses.{AllKeep, front, back}
-use Rattle.jt_semantics.proofs.ArityOfParts.{Stands, rs, ETakes, HasBody, none_numbered}
+use Rattle.jt_semantics.proofs.ArityOfParts.{Stands, rs, ETakes, HasBody, none_numbered, required_takes}
 use Rattle.jt_semantics.proofs.ArityOfParts.{PartTail, slot_takes, reads_take, reads_count, filtered_takes, some_takes}
 use Rattle.jt_semantics.proofs.ArityOfParts.{row_counts, aside_counts, some_count, expr_takes, row_takes, asides_take}
 use Rattle.jt_semantics.proofs.EachElement.{each_front, each_back}
@@ -86,6 +86,7 @@ module _ (cenv : CompileEnv) (order : List Namespace) where
         rules,
         filters_take here fs sp,
         filtered_takes,
+        required_takes,
         own.0.fitting,
         row_counts,
         aside_counts,
@@ -139,7 +140,11 @@ module _ (cenv : CompileEnv) (order : List Namespace) where
         → StmtKnown cenv.filters s → Needed sp.namespace (needs_by true s) (needs_by false s)
         → Embodied sp.namespace (blocks_of sp.template s sp.escaping) → BTakes w.in_loop (resolved_stmt cenv order s sp)
     stmt_takes (data_of s) sp w e t h k n d = (tt, tt)
-    stmt_takes (print line a) sp w e t h k n d = (expr_takes cenv order (place_at line w) a sp e t h k, tt)
+    stmt_takes (print line a) sp w e t h k n d = (
+      required_takes cenv order w.in_loop cenv.strict (resolved cenv order a sp)
+          (expr_takes cenv order (place_at line w) a sp e t h k),
+      tt,
+    )
     stmt_takes (choose bs other) sp w e t h k n d =
         search (
           arith,
@@ -163,8 +168,9 @@ module _ (cenv : CompileEnv) (order : List Namespace) where
         let h2 = back cenv sp.namespace (expr_uses a here) (names ++ condition_uses c here) h1 in
         let h3 = back cenv sp.namespace head bodies h in (
           (
-            expr_takes cenv order here a sp e t
-                (front cenv sp.namespace (expr_uses a here) (names ++ condition_uses c here) h1) k.0,
+            required_takes cenv order w.in_loop cenv.strict (resolved cenv order a sp)
+                (expr_takes cenv order here a sp e t
+                (front cenv sp.namespace (expr_uses a here) (names ++ condition_uses c here) h1) k.0),
             condition_takes here c (bound_all xs sp) e t (back cenv sp.namespace names (condition_uses c here) h2) k.1,
             copied_takes true (place sp 1) (bound_all xs sp).table (bound_all xs sp).free (set_in body)
                 (resolved_body cenv order body (bound_all (set_in body) (bound_all xs sp)))
@@ -209,6 +215,7 @@ module _ (cenv : CompileEnv) (order : List Namespace) where
           arith,
           rules,
           copied_takes,
+          required_takes,
           filters_take here fs,
           front cenv sp.namespace (filter_call_uses fs here) (body_uses body (inside_scope w)) h,
           inner,

@@ -152,6 +152,9 @@ module _ (cenv : CompileEnv) (order : List Namespace) where
       → ETakes l (in_form f a b)
   form_takes l f a b t h k = search (arith, rules)
 
+  pub required_takes : (l b : Bool) (e : SlotExpr Constant) → ETakes l e → ETakes l (slots.required_if b e)
+  required_takes l b e h = search (arith, rules)
+
   turned_takes : (l n : Bool) (e : SlotExpr Constant) → ETakes l e → ETakes l (turned_round n e)
   turned_takes l n e h = search (arith, rules)
 
@@ -351,6 +354,7 @@ module _ (cenv : CompileEnv) (order : List Namespace) where
             arith,
             rules,
             filtered_takes,
+            required_takes,
             h.0.fitting,
             row_counts,
             aside_counts,
@@ -364,7 +368,8 @@ module _ (cenv : CompileEnv) (order : List Namespace) where
           grind (arith, back, row_counts, turned_takes, tested_takes, front, expr_takes a sp e t, row_takes ts sp e t)
       expr_takes (unary p a) sp e t h k = (unary_one p, (expr_takes a sp e t h k, tt))
       expr_takes (binary p a b) sp e t h k =
-          search (arith, rules, form_takes, form_two, front, back, expr_takes a sp e t, expr_takes b sp e t)
+          search
+          (arith, rules, form_takes, required_takes, form_two, front, back, expr_takes a sp e t, expr_takes b sp e t)
       expr_takes (when c a) sp e t h k = search (arith, rules, front, back, expr_takes c sp e t, expr_takes a sp e t)
       expr_takes (choice c a b) sp e t h k =
           search (arith, rules, back, front, expr_takes c sp e t, expr_takes a sp e t, expr_takes b sp e t)

@@ -1,284 +1,154 @@
 -- A resolved tree needs at most half an entry for each of its tokens, and in addition one for each
 -- parameter that a call loads.
-use Rattle.std.proofs.Common.{◌≡◌, ℕ, zero, suc, ◌+◌, ◌*◌, max, min, ◌≤◌, Bool, if◌then◌else◌, List, []}
-use Rattle.std.proofs.Common.{◌∷◌, length, Option, arith, ap, rules}
-use Rattle.jt_ids.specs.declared.test_id.TestId.{TestId}
-use Rattle.jt_ast.specs.Expressions.{Expr, constant, name, group, list_of, map_of, attribute, item, call, filter, test}
-use Rattle.jt_ast.specs.Expressions.{unary, binary, when, choice, Exprs, no_exprs, expr, Pairs, no_pairs, pair, weight}
-use Rattle.jt_ast.specs.Expressions.{enclosed, perhaps_enclosed, exprs_weight, pairs_weight, Text}
-use Rattle.jt_semantics.specs.Operators.{OperatorForm}
-use Rattle.jt_value.specs.Place.{Place}
-use Rattle.jt_chains.specs.Uses.{count, keywords, set_in}
-use Rattle.jt_ast.specs.Statements.{Parameter, FilterCall, Stmt, choose, for_each, set_block, with_values, filter_block}
-use Rattle.jt_ast.specs.Statements.{autoescape, block, Body, end, stmt, Branches, no_branches, branch, condition_weight}
-use Rattle.jt_ast.specs.Statements.{filter_call_weight, stmt_bound, body_bound, branch_bound}
-use Rattle.jt_chains.specs.Chain.{Namespace, a_chain, given, Callee, a_macro, a_range, a_super, a_block, a_cycle}
-use Rattle.jt_chains.specs.Chain.{no_callee, callee}
-use Rattle.jt_ids.specs.declared.loop_field.LoopField.{LoopField}
+use Rattle.std.proofs.Common.{◌≡◌, ℕ, suc, ◌+◌, ◌*◌, max, min, ◌≤◌, List, Option, arith, subst, rules}
+use Rattle.jt_ast.specs.Expressions.{weight, Text}
+use Rattle.jt_chains.specs.Uses.{set_in}
+use Rattle.jt_ast.specs.Statements.{Body, body_bound}
+use Rattle.jt_chains.specs.Chain.{Namespace, Template, given}
 use Rattle.jt_rules.specs.CompileEnv.{CompileEnv}
 use Rattle.jt_semantics.specs.Expressions.{filter_parameters}
-use Rattle.jt_semantics.specs.Layout.{Table, slot_in, names, block_parameters, default_index}
-use Rattle.jt_semantics.specs.Layout.{first_slot, unit, of_chain}
+use Rattle.jt_semantics.specs.Layout.{globals}
 use Rattle.jt_ir.specs.Slots as slots
-use Rattle.jt_ir.specs.Slots.{Slot, SlotExpr, SRow, SBody, run}
-use Rattle.jt_ir.specs.Pool.{Constant, known}
-use Rattle.jt_semantics.specs.Resolve.{value_or, turned_round, tested_by, filtered_by, in_form, field_from, followed}
-use Rattle.jt_semantics.specs.Resolve.{locals_from, fresh_targets, set_targets, filled, filled_some, first_locals}
-use Rattle.jt_semantics.specs.Resolve.{reads, handed_on, Part, StaticEnv, place, grown, bound_all, copied, scoped}
-use Rattle.jt_semantics.specs.Resolve.{invoked_body, invoked_super, invoked, resolved, resolved_row}
-use Rattle.jt_semantics.specs.Resolve.{resolved_asides, resolved_entries, resolved_condition, resolved_filters}
-use Rattle.jt_semantics.specs.Resolve.{resolved_values, placed_body, resolved_stmt, resolved_body, resolved_choice}
-use Rattle.jt_semantics.specs.Resolve.{left_out}
-use Rattle.jt_ir.specs.Size.{targets_height, expr_height, row_height, condition_height, body_height}
+use Rattle.jt_ir.specs.Slots.{NaryOp, SlotExpr, SRow, Targets, SlotStmt, SBody}
+use Rattle.jt_ir.specs.Pool.{Constant}
+use Rattle.jt_semantics.specs.Resolve.{followed, StaticEnv, bound_all, scoped, resolved_chain, resolved_body}
+use Rattle.jt_ir.specs.Size.{targets_height, nary_op_height, expr_height, row_height, condition_height, stmt_height}
+use Rattle.jt_ir.specs.Size.{body_height}
 use Rattle.jt_semantics.specs.Measure.{HasAtMost}
-use Rattle.jt_semantics.proofs.FreeNameWeights.{stmt_free, body_free, branch_free}
-use Rattle.jt_semantics.proofs.InstructionBounds.{expr_some, operator_some, is_some_weight, kept_len, fresh_len}
-use Rattle.jt_semantics.proofs.InstructionBounds.{none_filled, filter_few, CalleeFew, callee_few}
+use Rattle.jt_semantics.proofs.FreeNameWeights.{body_free, templates_bound}
+use Rattle.jt_semantics.proofs.TreesHaveParts.{templates_free}
+use Rattle.jt_semantics.proofs.InstructionBounds.{filter_few, CalleeFew, callee_few}
+use Rattle.jt_semantics.proofs.TreesHaveParts as parts
 
--- ---- Parts
-
-either_low : (b : Bool) (x y : SlotExpr Constant) (n : ℕ) → 2 * expr_height x ≤ n → 2 * expr_height y ≤ n
-    → 2 * expr_height (if b then x else y) ≤ n
-either_low b x y n h k = search (arith, rules)
-
-value_low : (s : Option Slot) (k : Constant) → expr_height (value_or s k) ≡ 1
-value_low s k = search (arith, rules)
-
-field_low : (f : Option LoopField) → expr_height (field_from f) ≡ 1
-field_low f = search (arith, rules)
-
-turned_low : (b : Bool) (e : SlotExpr Constant) → expr_height (turned_round b e) ≤ max 1 (expr_height e)
-turned_low b e = search (arith, rules)
-
-tested_low : (t : Option TestId) (es : SRow Constant) → expr_height (tested_by t es) ≤ max 1 (row_height es)
-tested_low t es = search (arith, rules)
-
-filtered_low : (f : Option ℕ) (b : Bool) (es : SRow Constant) → expr_height (filtered_by f b es) ≤ max 1 (row_height es)
-filtered_low f b es = search (arith, rules)
-
-form_low : (f : OperatorForm) (a b : SlotExpr Constant)
-    → expr_height (in_form f a b) ≤ max (expr_height a) (max 2 (1 + expr_height b))
-form_low f a b = search (arith, rules)
-
-filled_low : (ps : List Parameter) (n d : ℕ) (ks : Table) → row_height (filled ps n d ks) ≤ length ps
-filled_low [] n d ks = omega arith
-filled_low (p ∷ ps) (suc n) d ks = omega (arith, filled_low ps n (suc d) ks)
-filled_low (p ∷ ps) zero d ks = omega (arith, value_low (slot_in p.name ks) (known d), filled_low ps zero (suc d) ks)
-
--- The row of the arguments by name needs at most one entry for each parameter, and no entry if no
--- name is given.
-some_low : (ps : List Parameter) (n : ℕ) (xs : List Text) (ks : Table) → row_height (filled_some ps n xs ks) ≤ length ps
-some_low [] n xs ks = omega arith
-some_low (p ∷ ps) (suc n) xs ks = omega (arith, some_low ps n xs ks)
-some_low (p ∷ ps) zero xs ks = search (arith, rules, some_low ps zero xs ks, value_low)
-
-few_low : (ps : List Parameter) (n : ℕ) (xs : List Text) (ks : Table) → length ps ≤ 3
-    → row_height (filled_some ps n xs ks) ≤ 3 * min 1 (length xs)
-few_low ps n [] ks h = omega (arith, ap row_height (none_filled ps n ks))
-few_low ps n (x ∷ xs) ks h = omega (arith, h, some_low ps n (x ∷ xs) ks)
-
-names_weigh : (ps : Pairs) → 4 * min 1 (length (keywords ps)) ≤ pairs_weight 2 ps
-names_weigh no_pairs = omega arith
-names_weigh (pair k a ps) = omega (arith, expr_some a)
-
-first_low : (n : ℕ) (xs : List Text) → row_height (first_locals n xs) ≤ length xs
-first_low n [] = omega arith
-first_low n (x ∷ xs) = omega (arith, first_low (suc n) xs)
-
-reads_low : (t : Table) (xs : List Text) → row_height (reads t xs) ≤ length xs
-reads_low t [] = omega arith
-reads_low t (x ∷ xs) = omega (arith, value_low (slot_in x t) (known 0), reads_low t xs)
-
-fresh_low : (n : ℕ) (xs : List Text) → targets_height (fresh_targets n xs) ≤ max 1 (length xs)
-fresh_low n xs = search (arith, rules, fresh_len)
-
-set_low : (t : Table) (xs : List Text) → targets_height (set_targets t xs) ≤ max 1 (length xs)
-set_low t xs = search (arith, rules, kept_len)
-
-pub followed_low : (a b : SBody Constant) → body_height (followed a b) ≡ max (body_height a) (body_height b)
+followed_low : (a b : SBody Constant) → body_height (followed a b) ≡ max (body_height a) (body_height b)
 followed_low slots.end b = omega arith
 followed_low (slots.stmt s rest) b = omega (arith, followed_low rest b)
 
-pub copied_low : (p : Place) (t : Table) (n : ℕ) (xs : List Text) (b : SBody Constant)
-    → body_height (copied p t n xs b) ≤ max 1 (body_height b)
-copied_low p t n [] b = omega arith
-copied_low p t n (x ∷ xs) b = omega (arith, value_low (slot_in x t) (known 0), copied_low p t (suc n) xs b)
+made_low : (k : NaryOp) → nary_op_height k ≤ 2
+made_low k = search (arith, rules)
 
-handed_low : (p : Place) (t : Table) (n : ℕ) (xs : List Text) → body_height (handed_on p t n xs) ≤ 1
-handed_low p t n [] = omega arith
-handed_low p t n (x ∷ xs) = omega (arith, value_low (slot_in x t) (known 0), handed_low p t (suc n) xs)
+module _ (q : ℕ) where
+  abbrev pub Low : parts.Parts
+  Low = record {
+    slot = λ s. Unit {0};
+    constant = λ k. Unit {0};
+    called = λ n. n ≤ q;
+    filtered = λ n. n ≤ 3;
+    targets = λ n. n ≤ q;
+    names = λ n. Unit {0};
+  }
+
+  read_low : {e : SlotExpr Constant} → parts.IsRead Low e → expr_height e ≡ 1
+  read_low e = search (arith, rules)
+
+  leaf_low : {e : SlotExpr Constant} → parts.IsLeaf Low e → expr_height e ≡ 1
+  leaf_low e = search (arith, rules, read_low)
+
+  loads_low : {n k : ℕ} {es : SRow Constant} → parts.LoadsOf Low n k es → row_height es ≡ n
+  loads_low parts.no_loads = omega arith
+  loads_low (parts.load l e es) = omega (arith, read_low e, loads_low es)
+  loads_low (parts.default k es) = omega (arith, loads_low es)
+
+  copies_low : {n : ℕ} {a b : SBody Constant} → parts.CopiesOf Low n a b
+      → body_height b ≤ max (min 1 n) (body_height a)
+  copies_low parts.no_copies = omega arith
+  copies_low (parts.copy s e c) = omega (arith, read_low e, copies_low c)
+
+  mutual
+    expr_lies : {w : ℕ} {e : SlotExpr Constant} → parts.ExprOf Low w e → 2 * expr_height e ≤ w + 1 + 2 * suc q
+    expr_lies (parts.leaf e) = omega (arith, leaf_low e)
+    expr_lies (parts.single {k = o} a) = omega (arith, made_low o, expr_lies a)
+    expr_lies (parts.pair {k = o} a b) = omega (arith, made_low o, operand_lies a, operand_lies b)
+    expr_lies (parts.operation {k = o} es) = omega (arith, made_low o, row_lies es)
+    expr_lies (parts.filter {k = o} l m k es) = omega (arith, made_low o, l, m, k, row_lies es, parts.names_pay es)
+    expr_lies (parts.both a b) = omega (arith, operand_lies a, operand_lies b)
+    expr_lies (parts.either a b) = omega (arith, operand_lies a, operand_lies b)
+    expr_lies (parts.when c a b) = omega (arith, expr_lies c, expr_lies a, read_low b)
+    expr_lies (parts.chosen c a b) = omega (arith, expr_lies c, expr_lies a, expr_lies b)
+    expr_lies (parts.call l m es) = omega (arith, l, m, row_lies es)
+    expr_lies (parts.more l e) = omega (arith, expr_lies e)
+
+    operand_lies : {w : ℕ} {e : SlotExpr Constant} → parts.OperandOf Low w e
+        → (1 ≤ w) × (2 * expr_height e ≤ w + 1 + 2 * suc q)
+    operand_lies (parts.plain e) = omega (arith, expr_lies e, parts.pays e)
+    operand_lies (parts.needed e) = omega (arith, expr_lies e, parts.pays e)
+
+    row_lies : {w v n k : ℕ} {es : SRow Constant} → parts.RowOf Low w v n k es
+        → 2 * row_height es ≤ w + max (v + 2 * suc q) (2 * n)
+    row_lies (parts.loads l) = omega (arith, loads_low l)
+    row_lies (parts.named s e es) = omega (arith, expr_lies e, row_lies es)
+    row_lies (parts.positional e es) = omega (arith, operand_lies e, row_lies es)
+    row_lies (parts.wider l es) = omega (arith, row_lies es)
+
+  condition_low : {w : ℕ} {c : Option (SlotExpr Constant)} → parts.ConditionOf Low w c
+      → 2 * condition_height c ≤ w + 2 * suc q
+  condition_low parts.no_condition = omega arith
+  condition_low (parts.condition c) = omega (arith, expr_lies c)
+
+  values_low : {w n : ℕ} {a b : SBody Constant} → parts.ValuesOf Low w n a b
+      → 2 * body_height b ≤ max (w + 2 * suc q) (2 * body_height a)
+  values_low parts.no_values = omega arith
+  values_low (parts.value s e v) = omega (arith, expr_lies e, values_low v)
+
+  targets_low : {n : ℕ} {xs : Targets} → parts.TargetsOf Low n xs → targets_height xs ≤ max 1 n
+  targets_low xs = search (arith, rules)
+
+  mutual
+    stmt_lies : {w m c : ℕ} {s : SlotStmt Constant} → parts.StmtOf Low w m c s → 2 * stmt_height s ≤ w + 2 * q
+    stmt_lies (parts.data_part k) = omega arith
+    stmt_lies (parts.print_part e) = omega (arith, operand_lies e)
+    stmt_lies (parts.set_part n xs e) = omega (arith, n, targets_low xs, expr_lies e)
+    stmt_lies (parts.branch_part e a b) = omega (arith, expr_lies e, body_lies a, body_lies b)
+    stmt_lies (parts.loop_part n xs e c body other) =
+        omega (arith, n, targets_low xs, operand_lies e, condition_low c, body_lies body, body_lies other)
+    stmt_lies (parts.capture_part l s body) = omega (arith, body_lies body)
+    stmt_lies (parts.run_part l m es) = omega (arith, l, m, loads_low es)
+
+    body_lies : {w m c : ℕ} {b : SBody Constant} → parts.BodyOf Low w m c b → 2 * body_height b ≤ w + 2 * q
+    body_lies parts.empty = omega arith
+    body_lies (parts.alone s) = omega (arith, stmt_lies s)
+    body_lies (parts.after {a = a} {b = b} x y) = omega (arith, followed_low a b, body_lies x, body_lies y)
+    body_lies (parts.scope l c b) = omega (arith, l, copies_low c, body_lies b)
+    body_lies (parts.within v b) = omega (arith, values_low v, body_lies b)
+    body_lies (parts.handed n c) = omega (arith, copies_low c)
+    body_lies (parts.wide l m k b) = omega (arith, body_lies b)
 
 module _ (cenv : CompileEnv) (order : List Namespace) (q : ℕ) where
-  body_low : (h : Namespace) (on : Bool) (i : Option ℕ) (es : SRow Constant) → row_height es ≤ q
-      → expr_height (invoked_body cenv order h on i es) ≤ 1 + q
-  body_low h on i es k = search (arith, rules)
+  meets : (n z : ℕ) → parts.Meets (Low q) n z cenv order (HasAtMost cenv order q)
+  meets n z = record {
+    first = tt;
+    locals = λ i l. tt;
+    global_slots = λ h i l k. tt;
+    tables = λ h. parts.all_fine (Low q) (λ s. tt) (globals cenv order h);
+    undefined = tt;
+    literals = λ l b. tt;
+    macros =
+        λ h k f z b e. (
+          subst (CalleeFew q (weight f)) e (callee_few q cenv.sources (given cenv.sources h) f k.macros),
+          λ i l g. tt,
+        );
+    blocks = λ h k. k.blocks;
+    parameters = λ h x i l. tt;
+    filters =
+        λ h k f. (
+          filter_few cenv f k.filters,
+          parts.all_defaults (Low q) (λ c. tt) (filter_parameters cenv.filters f),
+        );
+    name_counts = λ h k l. tt;
+  }
 
-  super_low : (sp : StaticEnv) (p : Option Part)
-      → ((x : Text) → length (block_parameters cenv order sp.namespace x) ≤ q)
-      → expr_height (invoked_super cenv order sp p) ≤ 1 + q
-  super_low sp p k = search (arith, rules, body_low, first_low)
+  -- The bound of the entries of a chain's templates.
+  pub chain_low : (h : Namespace) (ts : List Template) → HasAtMost cenv order q h → templates_bound ts ≤ q
+      → 2 * body_height (resolved_chain cenv order h ts) ≤ templates_free ts + 2 * q
+  chain_low h ts k g =
+      body_lies q
+      (parts.chain_parts (Low q) cenv order (HasAtMost cenv order q) meets h ts k (λ i l. omega arith))
 
-  -- The bound of the entries of a part that comes before a row.
-  abbrev RowLow : ℕ → (SRow Constant → SRow Constant) → Type 0
-  RowLow w f = (b : SRow Constant) (z : ℕ) → 2 * q ≤ z → 2 * row_height b ≤ z → 2 * row_height (f b) ≤ w + z
-
-  abbrev AsidesLow : ℕ → (SRow Constant → SRow Constant) → Type 0
-  AsidesLow v f = (b : SRow Constant) → 2 * row_height (f b) ≤ max (v + 2 * q) (2 * row_height b)
-
-  invoked_low : (c : Callee) (sp : StaticEnv) (row asides : SRow Constant → SRow Constant) (n : ℕ) (ks : Table)
-      (u w v : ℕ)
-      → 1 ≤ u → CalleeFew q u c → ((x : Text) → length (block_parameters cenv order sp.namespace x) ≤ q) → RowLow w row
-      → AsidesLow v asides
-      → 2 * expr_height (invoked cenv order c sp row asides n ks) ≤ u + enclosed (w + v) + 1 + 2 * q
-  invoked_low (a_macro z m) sp row asides n ks u w v some f k r a =
-      let rest = filled m.parameters n (default_index cenv order z m.name) ks in
-      let low = filled_low m.parameters n (default_index cenv order z m.name) ks in
-      let hs : 2 * row_height (row (asides rest)) ≤ w + (v + 2 * q) =
-      r (asides rest) (v + 2 * q) (omega arith) (omega (arith, a rest, low, f)) in
-      omega (arith, some, hs)
-  invoked_low a_range sp row asides n ks u w v some f k r a =
-      omega (arith, some, r slots.none (2 * q) (omega arith) (omega arith))
-  invoked_low a_super sp row asides n ks u w v some f k r a = omega (arith, some, super_low sp sp.part k)
-  invoked_low (a_block x) sp row asides n ks u w v some f k r a = search (arith, rules, body_low, reads_low)
-  invoked_low a_cycle sp row asides n ks u w v some f k r a =
-      omega (arith, f, r slots.none (2 * q) (omega arith) (omega arith))
-  invoked_low no_callee sp row asides n ks u w v some f k r a = omega (arith, some)
-
-  -- The bound of the entries of a filter's arguments after its input, by their weight with
-  -- parentheses.
-  filter_row : (ts : Exprs) (ps : Pairs) (row asides : SRow Constant → SRow Constant) (rest : SRow Constant)
-      → RowLow (exprs_weight ts) row → AsidesLow (pairs_weight 2 ps) asides
-      → row_height rest ≤ 3 * min 1 (length (keywords ps))
-      → 2 + 2 * row_height (row (asides rest)) ≤ 3 + perhaps_enclosed (exprs_weight ts + pairs_weight 2 ps) + 2 * q
-  filter_row ts ps row asides rest r a low =
-      let v = pairs_weight 2 ps in
-      let z = max (v + 2 * q) (6 * min 1 (length (keywords ps))) in
-      let hs : 2 * row_height (row (asides rest)) ≤ exprs_weight ts + z =
-      r (asides rest) z (omega arith) (omega (arith, a rest, low)) in
-      omega (arith, hs, names_weigh ps)
-
-  mutual
-    pub resolved_low : (e : Expr) (sp : StaticEnv) → HasAtMost cenv order q sp.namespace
-        → 2 * expr_height (resolved cenv order e sp) ≤ weight e + 1 + 2 * q
-    resolved_low (constant l) sp k = omega (arith, expr_some (constant l))
-    resolved_low (name x) sp k = omega (arith, value_low (slot_in x sp.table) (known 0))
-    resolved_low (group a) sp k = omega (arith, resolved_low a sp k)
-    resolved_low (list_of ts) sp k = omega (arith, row_low ts sp k slots.none (2 * q) (omega arith) (omega arith))
-    resolved_low (map_of ps) sp k = omega (arith, entries_low ps sp k)
-    resolved_low (attribute a x) sp k = search (arith, rules, either_low, field_low, resolved_low a sp k, expr_some)
-    resolved_low (item a b) sp k = omega (arith, resolved_low a sp k, resolved_low b sp k, expr_some a)
-    resolved_low (call f ts ps) sp k =
-        invoked_low (callee cenv.sources (given cenv.sources sp.namespace) f) sp (resolved_row cenv order ts sp)
-        (resolved_asides cenv order ps sp) (count ts) (locals_from sp.free (keywords ps))
-        (weight f) (exprs_weight ts) (pairs_weight 2 ps) (expr_some f)
-        (callee_few q cenv.sources (given cenv.sources sp.namespace) f k.macros) k.blocks (λ b z. row_low ts sp k b z)
-        (λ b. asides_low ps sp k b)
-    resolved_low (filter a x ts ps) sp k =
-        search (
-          arith,
-          rules,
-          filtered_low,
-          resolved_low a sp k,
-          expr_some,
-          filter_row,
-          row_low ts sp k,
-          asides_low ps sp k,
-          few_low,
-          filter_few,
-        )
-    resolved_low (test a n x ts ps) sp k =
-        search (arith, rules, turned_low, tested_low, resolved_low a sp k, row_low ts sp k, is_some_weight, expr_some)
-    resolved_low (unary u a) sp k = omega (arith, resolved_low a sp k, expr_some a)
-    resolved_low (binary b x y) sp k =
-        search (arith, rules, form_low, operator_some, expr_some, resolved_low x sp k, resolved_low y sp k)
-    resolved_low (when c a) sp k = omega (arith, resolved_low c sp k, resolved_low a sp k, expr_some c, expr_some a)
-    resolved_low (choice c a b) sp k = omega (arith, resolved_low c sp k, resolved_low a sp k, resolved_low b sp k)
-
-    pub row_low : (ts : Exprs) (sp : StaticEnv) → HasAtMost cenv order q sp.namespace → (b : SRow Constant) (z : ℕ)
-        → 2 * q ≤ z → 2 * row_height b ≤ z → 2 * row_height (resolved_row cenv order ts sp b) ≤ exprs_weight ts + z
-    row_low no_exprs sp k b z h g = omega (arith, g)
-    row_low (expr a ts) sp k b z h g = omega (arith, h, resolved_low a sp k, row_low ts sp k b z h g, expr_some a)
-
-    pub asides_low : (ps : Pairs) (sp : StaticEnv) → HasAtMost cenv order q sp.namespace → (b : SRow Constant)
-        → 2 * row_height (resolved_asides cenv order ps sp b) ≤ max (pairs_weight 2 ps + 2 * q) (2 * row_height b)
-    asides_low no_pairs sp k b = omega arith
-    asides_low (pair x a ps) sp k b = omega (arith, resolved_low a sp k, asides_low ps (grown sp) k b)
-
-    entries_low : (ps : Pairs) (sp : StaticEnv) → HasAtMost cenv order q sp.namespace
-        → 2 * row_height (resolved_entries cenv order ps sp) ≤ pairs_weight 3 ps + 2 * q
-    entries_low no_pairs sp k = omega arith
-    entries_low (pair x a ps) sp k = omega (arith, resolved_low a sp k, entries_low ps sp k, expr_some a)
-
-  -- ---- Statements
-
-  condition_low : (c : Option Expr) (sp : StaticEnv) → HasAtMost cenv order q sp.namespace
-      → 2 * condition_height (resolved_condition cenv order c sp) ≤ condition_weight c + 2 * q
-  condition_low c sp k = search (arith, rules, resolved_low)
-
-  filters_low : (fs : List FilterCall) (sp : StaticEnv) (e : SlotExpr Constant) → HasAtMost cenv order q sp.namespace
-      → 2 * expr_height (resolved_filters cenv order fs sp e)
-      ≤ max (2 * expr_height e) (1 + filter_call_weight fs + 2 * q)
-  filters_low [] sp e k = omega arith
-  filters_low (f ∷ fs) sp e k =
-      let i = cenv.filters.named f.name f.arguments f.keywords in
-      let rest = filled_some (filter_parameters cenv.filters i) (count f.arguments) (keywords f.keywords)
-      (locals_from sp.free (keywords f.keywords)) in
-      let es = slots.item e (resolved_row cenv order f.arguments sp (resolved_asides cenv order f.keywords sp rest)) in
-      omega (
-        arith,
-        filters_low fs sp (filtered_by i sp.escaping es) k,
-        filtered_low i sp.escaping es,
-        filter_row f.arguments f.keywords (resolved_row cenv order f.arguments sp)
-            (resolved_asides cenv order f.keywords sp) rest (λ b z. row_low f.arguments sp k b z)
-            (λ b. asides_low f.keywords sp k b)
-            (few_low (filter_parameters cenv.filters i) (count f.arguments) (keywords f.keywords)
-            (locals_from sp.free (keywords f.keywords)) (filter_few cenv i k.filters)),
-      )
-
-  values_low : (ps : Pairs) (sp : StaticEnv) (line : ℕ) (b : SBody Constant) → HasAtMost cenv order q sp.namespace
-      → 2 * body_height (resolved_values cenv order ps sp line b) ≤ max (pairs_weight 0 ps + 2 * q) (2 * body_height b)
-  values_low no_pairs sp line b k = omega arith
-  values_low (pair x e ps) sp line b k = search (arith, rules, expr_some, resolved_low, values_low ps)
-
-  placed_low : (sp : StaticEnv) (i : Option ℕ) (x : Text) (t : Table)
-      → length (block_parameters cenv order sp.namespace x) ≤ q → body_height (placed_body cenv order sp i x t) ≤ 1 + q
-  placed_low sp i x t k = search (arith, rules, reads_low)
-
-  include_low : (sp : StaticEnv) (line : ℕ) (n : Text) (missing c : Bool) (b : Bool)
-      → body_height (if b then left_out sp line missing
-      else followed (handed_on (place sp line) (if c then sp.table else []) (first_slot cenv order (a_chain n))
-      (names cenv order (a_chain n)))
-      (slots.stmt (run (unit cenv order (of_chain n)) slots.none) slots.end))
-      ≤ 1
-  include_low sp line n missing c b = search (arith, rules, followed_low, handed_low)
-
-  -- The bound of the entries of a scope, whose copies come before the body.
-  pub scope_low : (b : Body) (sp : StaticEnv)
-      → 2 * body_height (resolved_body cenv order b (bound_all (set_in b) sp)) ≤ body_free b + 2 * q
-      → 2 * body_height (scoped (set_in b) sp (resolved_body cenv order b)) ≤ max 2 (body_free b + 2 * q)
-  scope_low b sp h = search (arith, rules, copied_low)
-
-  mutual
-    pub stmt_low : (s : Stmt) (sp : StaticEnv) → HasAtMost cenv order q sp.namespace → stmt_bound s ≤ q
-        → 2 * body_height (resolved_stmt cenv order s sp) ≤ stmt_free s + 2 * q
-    stmt_low (choose bs other) sp k g = search (arith, rules, choice_low bs sp k, all_low other sp k)
-    stmt_low (for_each line xs e c body other) sp k g =
-        search (arith, rules, fresh_low, resolved_low, condition_low, scope_low, all_low body, all_low other sp k)
-    stmt_low (set_block line x body) sp k g = search (arith, rules, scope_low, all_low body)
-    stmt_low (with_values line ps body) sp k g = search (arith, rules, values_low, scope_low, all_low body)
-    stmt_low (filter_block line fs body) sp k g = search (arith, rules, scope_low, filters_low, all_low body)
-    stmt_low (autoescape line on body) sp k g = search (arith, rules, scope_low, all_low body)
-    stmt_low (block line x is required body) sp k g = search (arith, rules, placed_low)
-    stmt_low s sp k g = search (arith, rules, resolved_low, set_low, include_low)
-
-    pub all_low : (b : Body) (sp : StaticEnv) → HasAtMost cenv order q sp.namespace → body_bound b ≤ q
-        → 2 * body_height (resolved_body cenv order b sp) ≤ body_free b + 2 * q
-    all_low end sp k g = omega arith
-    all_low (stmt s rest) sp k g = search (arith, rules, followed_low, stmt_low s sp k, all_low rest sp k)
-
-    choice_low : (bs : Branches) (sp : StaticEnv) → HasAtMost cenv order q sp.namespace → branch_bound bs ≤ q
-        → (other : SBody Constant) → 2 * body_height (resolved_choice cenv order bs sp other)
-        ≤ max (branch_free bs + 2 * q) (2 * body_height other)
-    choice_low no_branches sp k g other = omega arith
-    choice_low (branch line c body rest) sp k g other =
-        search (arith, rules, resolved_low, all_low body sp k, choice_low rest sp k)
+  -- The bound of the entries of a body with parameters.
+  pub routine_low : (xs : List Text) (b : Body) (sp : StaticEnv) → HasAtMost cenv order q sp.namespace
+      → body_bound b ≤ q
+      → 2 * body_height (scoped (set_in b) (bound_all xs sp) (resolved_body cenv order b)) ≤ body_free b + 2 * q
+  routine_low xs b sp k g =
+      body_lies q
+      (parts.routine_parts (Low q) cenv order (HasAtMost cenv order q) meets xs b sp k
+      (parts.all_fine (Low q) (λ s. tt) sp.table) (λ i l. omega arith))

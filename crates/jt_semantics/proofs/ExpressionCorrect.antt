@@ -1,9 +1,9 @@
 -- The meaning of an expression by names is its meaning by slots.
-use Rattle.std.proofs.Common.{◌≡◌, ℕ, zero, suc, pos, ◌+◌, ◌<◌, ◌≤◌, Bool, true, false, if◌then◌else◌, List, [], ◌∷◌}
+use Rattle.std.proofs.Common.{◌≡◌, ℕ, zero, suc, pos, ◌+◌, ◌≤◌, Bool, true, false, if◌then◌else◌, List, [], ◌∷◌}
 use Rattle.std.proofs.Common.{◌++◌, length, map, Option, Some, None, refl, sym, ap, ◌∙◌, subst, arith, append_assoc}
 use Rattle.std.proofs.Common.{inl, inr, rules}
 use Rattle.std.proofs.lemmas.List.{append-nil, length-map}
-use Rattle.std.specs.Prelude.{unwrap_or, Result, filter}
+use Rattle.std.specs.Prelude.{unwrap_or, Result, filter, ◌&&◌}
 use Rattle.std.specs.Str.{bytes_eq}
 use Rattle.jt_value.specs.Tree as tree
 use Rattle.jt_value.specs.Tree.{Tree}
@@ -23,10 +23,11 @@ use Rattle.jt_ast.specs.Expressions.{Expr, constant, name, group, list_of, attri
 use Rattle.jt_ast.specs.Expressions.{choice, Exprs, no_exprs, expr, no_pairs, pair, Text}
 use Rattle.jt_eval.specs.Eval.{Eval, gives, bind, checked}
 use Rattle.jt_semantics.specs.Operators.{unary_operation, OperatorForm, operation, negation, conjunction, disjunction}
-use Rattle.jt_semantics.specs.Operators.{range_of}
+use Rattle.jt_semantics.specs.Operators.{form, joins, range_of}
 use Rattle.jt_eval.specs.Tests.{test_named}
-use Rattle.jt_eval.specs.Values.{literal, as_value}
+use Rattle.jt_eval.specs.Values.{literal, as_value, defined, required_if}
 use Rattle.jt_semantics.specs.Expressions.{operated, asked, turned, either, combined, filtered, filter_parameters}
+use Rattle.jt_semantics.specs.Expressions.{requires_input}
 use Rattle.jt_semantics.specs.Expressions.{entries_of, field_of, cycled, block_text, super_text, seen_by, valued_text}
 use Rattle.jt_semantics.specs.Expressions.{called, value, values, named_values}
 use Rattle.jt_chains.specs.Uses.{count, keywords, expr_names, row_names, pair_names}
@@ -233,6 +234,20 @@ module _ (cenv : CompileEnv) (order : List Namespace) (calls : Calls) (scall : S
       → SameEval (Evaluated b g m) h (seen e m)
       → SameEval (Evaluated b g m) (bind h (λ v. operated o (v ∷ []))) (seen (made (operator o) (slots.item e none)) m)
   one_both {m = m} o e u = search (arith, rules, by_right, on_one, bind_both, done_as)
+
+  on_required : (e : SlotExpr Constant) (m : Memory)
+      → seen (made slots.required (slots.item e none)) m
+      ≡ bind (seen e m) (λ r. bind (checked (defined r.value)) (valued r.memory))
+  on_required e m = one_after (seen e m) (λ vs n. bind (checked (make fs slots.required vs)) (valued n))
+
+  -- A value that may be required has one outcome by names and by slots.
+  pub required_both : {b g : ℕ} {m : Memory} {h : Eval Tree} (n : Bool) (e : SlotExpr Constant)
+      → SameEval (Evaluated b g m) h (seen e m)
+      → SameEval (Evaluated b g m) (required_if n h) (seen (slots.required_if n e) m)
+  required_both false e u = u
+  required_both {m = m} true e u =
+      by_right (on_required e m) (bind_both u (λ v r w. done_as (defined v) (defined r.value)
+      (ap defined (sym w.value)) w.kept w.out))
 
   turned_both : {b g : ℕ} {m : Memory} {h : Eval Tree} (n : Bool) (e : SlotExpr Constant)
       → SameEval (Evaluated b g m) h (seen e m) → SameEval (Evaluated b g m) (turned n h) (seen (turned_round n e) m)
@@ -734,9 +749,11 @@ module _ (cenv : CompileEnv) (order : List Namespace) (calls : Calls) (scall : S
         let back = among_back (expr_names e) (row_names ts ++ pair_names ps) (ns sp) i in
         let back1 = among_front (row_names ts) (pair_names ps) (ns sp) back in
         let back2 = among_back (row_names ts) (pair_names ps) (ns sp) back in
-        filter_both x ts ps sp env (resolved cenv order e sp)
+        let strict = requires_input cenv.strict (fs.named x ts ps) in
+        filter_both x ts ps sp env (slots.required_if strict (resolved cenv order e sp))
         (λ n k. values_same ts sp env n (good_kept cenv order g k) back1)
-        (λ n k. asides_same ps sp env n (good_kept cenv order g k) back2) (value_same e sp env m g front)
+        (λ n k. asides_same ps sp env n (good_kept cenv order g k) back2)
+        (required_both strict (resolved cenv order e sp) (value_same e sp env m g front))
     value_same (written.test e n x ts ps) sp env m g i =
         let front = among_front (expr_names e) (row_names ts ++ pair_names ps) (ns sp) i in
         let back = among_front (row_names ts) (pair_names ps) (ns sp)
@@ -754,8 +771,13 @@ module _ (cenv : CompileEnv) (order : List Namespace) (calls : Calls) (scall : S
     value_same (unary o e) sp env m g i =
         one_both (unary_operation o) (resolved cenv order e sp) (value_same e sp env m g i)
     value_same (binary o e k) sp env m g i =
-        search
-        (arith, rules, form_both, value_same e sp env m g, among_front, value_same k sp env, good_kept, among_back)
+        let strict = cenv.strict && joins o in
+        form_both (form sp.escaping o) (slots.required_if strict (resolved cenv order e sp))
+        (slots.required_if strict (resolved cenv order k sp))
+        (required_both strict (resolved cenv order e sp)
+        (value_same e sp env m g (among_front (expr_names e) (expr_names k) (ns sp) i)))
+        (λ n u p. required_both strict (resolved cenv order k sp)
+        (value_same k sp env n (good_kept cenv order g u) (among_back (expr_names e) (expr_names k) (ns sp) i)))
     value_same (when c e) sp env m g i =
         choice_both (resolved cenv order c sp) (resolved cenv order e sp) no_value
         (value_same c sp env m g (among_front (expr_names c) (expr_names e) (ns sp) i))

@@ -44,7 +44,39 @@ abbrev mutual
   branch_free no_branches = 0
   branch_free (branch line c body rest) = 5 + weight c + body_free body + branch_free rest
 
-pairs_bound : (ps : Pairs) → pairs_weight 2 ps ≡ pairs_weight 0 ps + 2 * pairs_count ps
+-- ---- The names that a body binds, without the bodies of its blocks and macros
+
+abbrev mutual
+  pub stmt_binds : Stmt → ℕ
+  stmt_binds (choose bs other) = branch_binds bs + body_binds other
+  stmt_binds (for_each line xs e c body other) = length xs + body_binds body + body_binds other
+  stmt_binds (set line xs e) = length xs
+  stmt_binds (set_block line x body) = 1 + body_binds body
+  stmt_binds (with_values line ps body) = pairs_count ps + body_binds body
+  stmt_binds (filter_block line fs body) = body_binds body
+  stmt_binds (autoescape line on body) = body_binds body
+  stmt_binds s = 0
+
+  pub body_binds : Body → ℕ
+  body_binds end = 0
+  body_binds (stmt s rest) = stmt_binds s + body_binds rest
+
+  pub branch_binds : Branches → ℕ
+  branch_binds no_branches = 0
+  branch_binds (branch line c body rest) = body_binds body + branch_binds rest
+
+-- ---- The own weight of a body: a macro has weight 0 in it, and a block the weight of its tag
+
+abbrev pub stmt_own : Stmt → ℕ
+stmt_own s = stmt_free s + 2 * stmt_binds s
+
+abbrev pub body_own : Body → ℕ
+body_own b = body_free b + 2 * body_binds b
+
+abbrev pub branch_own : Branches → ℕ
+branch_own bs = branch_free bs + 2 * branch_binds bs
+
+pub pairs_bound : (ps : Pairs) → pairs_weight 2 ps ≡ pairs_weight 0 ps + 2 * pairs_count ps
 pairs_bound no_pairs = omega arith
 pairs_bound (pair x e ps) = omega (arith, pairs_bound ps)
 

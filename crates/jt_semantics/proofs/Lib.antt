@@ -21,6 +21,7 @@ pub mod ArityOfParts
 pub mod ArityFromRules
 pub mod ArityCorrect
 pub mod PooledArity
+pub mod TreesHaveParts
 pub mod InstructionBounds
 pub mod EntryBounds
 pub mod ProgramSize

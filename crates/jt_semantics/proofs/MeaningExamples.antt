@@ -1,21 +1,26 @@
 -- Examples that are computed from the definitions by names, and by the slots of the entry's
--- program. The entry is `t`, escaping is on, and calls are at most 9 deep.
-use Rattle.std.proofs.Common.{◌≡◌, List, map, refl}
+-- program. The entry is `t`, escaping is on, and calls are at most 9 deep. The last examples have
+-- both settings of strict templates.
+use Rattle.std.proofs.Common.{◌≡◌, ℕ, List, map, refl}
 use Rattle.std.specs.Prelude.{pos, true, false, [], ◌∷◌, codes, Some, None}
 use Rattle.std.specs.Fmt.{digits}
+use Prim.Native.String.{String}
 use Rattle.std.specs.Str.{chars as characters}
 use Rattle.jt_value.specs.Tree as v
 use Rattle.jt_value.specs.View.{items_of}
 use Rattle.jt_value.specs.declared.fault.Fault.TheVariants.{Undefined, Unpack, ZeroDivide}
+use Rattle.jt_value.specs.Pairs.{Pairs}
 use Rattle.jt_ast.specs.Expressions as e
-use Rattle.jt_ast.specs.Expressions.{no_exprs, no_pairs}
+use Rattle.jt_ast.specs.Expressions.{Expr, Text, no_exprs, no_pairs}
+use Rattle.jt_ast.specs.declared.expression.BinaryOperator.TheVariants as o
+use Rattle.jt_eval.specs.Eval.{Eval, gives, fails}
 use Rattle.jt_eval.specs.Tests.{test_named}
-use Rattle.jt_ast.specs.Statements.{end}
+use Rattle.jt_ast.specs.Statements.{FilterCall, Stmt, Body, end}
 use Rattle.jt_semantics.proofs.TestTemplates.{name, num, str, exprs, listing, call, Call, pair, of, Filter, Test}
 use Rattle.jt_semantics.proofs.TestTemplates.{Binary, body, chars, print, Print, set, Set, SetBlock, With, FilterBlock}
 use Rattle.jt_semantics.proofs.TestTemplates.{Autoescape, For, when, block, Block, Macro, Include, Import, From}
 use Rattle.jt_semantics.proofs.TestTemplates.{extends, parameter, source, Example, shows, faults_at, is_deeper}
-use Rattle.jt_semantics.proofs.TestTemplates.{meaning_of, resolved_meaning}
+use Rattle.jt_semantics.proofs.TestTemplates.{meaning_of, resolved_meaning, strict_meaning_of, strict_resolved_meaning}
 
 -- Templates with the context of the entry, and its outcome.
 abbrev examples : List Example
@@ -304,3 +309,89 @@ by_names = refl
 by_slots : map (λ (x : Example). resolved_meaning x.0.0 x.0.1) examples ≡ map (λ (x : Example). x.1) examples
 unfolding digits characters test_named
 by_slots = refl
+
+-- ---- Strict templates: each template with its context, its outcome, and its outcome if it is strict
+
+pub record Setting : Type 0 where
+  pub template : List Stmt
+  pub plain : Eval Text
+  pub strict : Eval Text
+
+abbrev upper_call : List FilterCall
+upper_call = record { name = codes "upper"; arguments = no_exprs; keywords = no_pairs } ∷ []
+
+-- The filter tag `d(nope, true)`, whose result is undefined if its text is empty.
+abbrev default_call : List FilterCall
+default_call =
+    record { name = codes "d"; arguments = exprs (name "nope" ∷ name "one" ∷ []); keywords = no_pairs } ∷ []
+
+abbrev given : String → Eval Text
+given x = gives (codes x)
+
+abbrev undefined_at : ℕ → Eval Text
+undefined_at line = fails Undefined (Some (record { template = codes "t"; line = line }))
+
+abbrev loop_over : Expr → List Stmt
+loop_over over = For 2 (codes "x" ∷ []) over None (body (print (name "x") ∷ [])) (body (chars "none" ∷ [])) ∷ []
+
+abbrev both : List Stmt → Eval Text → Eval Text → Setting
+both template plain strict = record { template = template; plain = plain; strict = strict }
+
+abbrev settings : List Setting
+settings =
+    -- A printed value: `{{ nope }}`.
+    both (Print 2 (name "nope") ∷ []) (given "") (undefined_at 2)
+    -- A loop: `{% for x in nope %}{{ x }}{% else %}none{% endfor %}`.
+    ∷ both (loop_over (name "nope")) (given "none") (undefined_at 2)
+    -- The operands of `~`: `{{ nope ~ "a" }}` and `{{ "a" ~ nope }}`.
+    ∷ both (Print 2 (e.binary o.Concatenate (name "nope") (str "a")) ∷ []) (given "a") (undefined_at 2)
+    ∷ both (Print 2 (e.binary o.Concatenate (str "a") (name "nope")) ∷ []) (given "a") (undefined_at 2)
+    -- The input of a filter: `{{ nope|length }}`.
+    ∷ both (Print 2 (Filter (name "nope") (codes "length") no_exprs no_pairs) ∷ []) (given "0") (undefined_at 2)
+    -- The input of `default`: `{{ nope|d("y") }}`.
+    ∷ both (Print 2 (Filter (name "nope") (codes "d") (exprs (str "y" ∷ [])) no_pairs) ∷ []) (given "y") (given "y")
+    -- The result of a filter: `{{ ""|d(nope, one) }}`.
+    ∷ both (Print 2 (Filter (str "") (codes "d") (exprs (name "nope" ∷ name "one" ∷ [])) no_pairs) ∷ []) (given "")
+    (undefined_at 2)
+    -- A filter tag: `{% filter upper %}a{% endfilter %}`.
+    ∷ both (FilterBlock 2 upper_call (body (chars "a" ∷ [])) ∷ []) (given "A") (given "A")
+    -- The result of a filter tag: `{% filter d(nope, one) %}{% endfilter %}`.
+    ∷ both (FilterBlock 2 default_call (body []) ∷ []) (given "") (undefined_at 2)
+    -- Truth, comparison and tests: `{% if nope %}a{% endif %}{{ nope or "b" }}{{ nope == 1 }}
+    -- {{ nope is defined }}`.
+    ∷ both (when (name "nope") (chars "a" ∷ []) ∷ print (e.binary o.Or (name "nope") (str "b"))
+    ∷ print (e.binary o.Equal (name "nope") (num 1)) ∷ chars " "
+    ∷ print (Test false (name "nope") (codes "defined") no_exprs no_pairs) ∷ [])
+    (given "bFalse False") (given "bFalse False")
+    -- An assignment, and a parameter without an argument: `{% set a = nope %}{% macro m(b) %}{% if b
+    -- %}{% endif %}-{% endmacro %}{{ m() }}`.
+    ∷ both (set "a" (name "nope")
+    ∷ Macro 1 (codes "m") (parameter "b" ∷ []) (body (when (name "b") [] ∷ chars "-" ∷ []))
+    ∷ print (call (name "m") []) ∷ []) (given "-") (given "-")
+    -- A member of a list: `{% for x in [nope] %}{{ x }}{% else %}none{% endfor %}`. The fault is at the
+    -- print.
+    ∷ both (loop_over (listing (name "nope" ∷ []))) (given "") (undefined_at 1)
+    ∷ []
+
+-- The context of each template: `one` is 1, and `nope` is missing.
+abbrev one_given : Pairs
+one_given = (codes "one", v.number (pos 1)) ∷ []
+
+abbrev entry_of : Setting → List (Text × Body)
+entry_of s = (codes "t", body s.template) ∷ []
+
+plain_by_names : map (λ s. meaning_of (entry_of s) one_given) settings ≡ map (λ s. s.plain) settings
+unfolding digits characters test_named
+plain_by_names = refl
+
+plain_by_slots : map (λ s. resolved_meaning (entry_of s) one_given) settings ≡ map (λ s. s.plain) settings
+unfolding digits characters test_named
+plain_by_slots = refl
+
+strict_by_names : map (λ s. strict_meaning_of (entry_of s) one_given) settings ≡ map (λ s. s.strict) settings
+unfolding digits characters test_named
+strict_by_names = refl
+
+strict_by_slots : map (λ s. strict_resolved_meaning (entry_of s) one_given) settings ≡ map (λ s. s.strict) settings
+unfolding digits characters test_named
+strict_by_slots = refl

@@ -10,6 +10,7 @@ use Rattle.jt_ast.specs.Expressions as written
 use Rattle.jt_ast.specs.Expressions.{Expr, constant, name, group, list_of, map_of, attribute, item, unary, binary, when}
 use Rattle.jt_ast.specs.Expressions.{choice, Exprs, no_exprs, expr, no_pairs, pair, Text}
 use Rattle.jt_value.specs.Place.{Place}
+use Rattle.jt_eval.specs.Values.{required_if}
 use Rattle.jt_eval.specs.Eval.{Eval, gives, fails, deeper, bind, at}
 use Rattle.jt_semantics.specs.Operators.{OperatorForm, form}
 use Rattle.jt_semantics.specs.Expressions.{asked, turned, either, combined, filtered, block_text, super_text, called}
@@ -55,6 +56,9 @@ asked_under t u = search (arith, rules, same, bound)
 filtered_under : (fs : Filters) (f : Option ℕ) (on : Bool) {g h : Eval (List Tree)} → Approximates g h
     → Approximates (filtered fs f on g) (filtered fs f on h)
 filtered_under fs f on u = search (arith, rules, same, bound)
+
+required_under : (b : Bool) {g h : Eval Tree} → Approximates g h → Approximates (required_if b g) (required_if b h)
+required_under b u = search (arith, rules, bound, same)
 
 combined_under : (f : OperatorForm) {g h g' h' : Eval Tree} → Approximates g g' → Approximates h h'
     → Approximates (combined f g h) (combined f g' h')
@@ -111,12 +115,14 @@ module _ (cenv : CompileEnv) (c d : Calls) (under : (x : Invocation) → Approxi
         search (arith, rules, called_under, values_under ts a env, named_under ps a env)
     value_under (written.filter e x ts ps) a env =
         filtered_under cenv.filters (cenv.filters.named x ts ps) a.escaping
-        (bound (value_under e a env)
+        (bound (required_under _ (value_under e a env))
         (λ v. bound (values_under ts a env) (λ vs. bound (named_under ps a env) (λ ks. same))))
     value_under (written.test e n x ts ps) a env =
         search (arith, rules, turned_under, asked_under, bound, same, value_under e a env, values_under ts a env)
     value_under (unary o e) a env = bound (value_under e a env) (λ v. same)
-    value_under (binary o e f) a env = combined_under (form a.escaping o) (value_under e a env) (value_under f a env)
+    value_under (binary o e f) a env =
+        combined_under (form a.escaping o) (required_under _ (value_under e a env))
+        (required_under _ (value_under f a env))
     value_under (when e f) a env = either_under (value_under e a env) (value_under f a env) same
     value_under (choice e f g) a env = either_under (value_under e a env) (value_under f a env) (value_under g a env)
 
@@ -143,18 +149,21 @@ module _ (cenv : CompileEnv) (c d : Calls) (under : (x : Invocation) → Approxi
   through_under [] a env u = u
   through_under (f ∷ fs) a env u =
       through_under fs a env (filtered_under cenv.filters (cenv.filters.named f.name f.arguments f.keywords) a.escaping
-      (bound u (λ v. bound (values_under f.arguments a env) (λ vs. bound (named_under f.keywords a env) (λ ks. same)))))
+      (bound (required_under _ u)
+      (λ v. bound (values_under f.arguments a env) (λ vs. bound (named_under f.keywords a env) (λ ks. same)))))
 
   mutual
     pub meaning_under : (s : Stmt) (a : EvalContext) (st : State)
         → Approximates (meaning cenv c s a st) (meaning cenv d s a st)
     meaning_under (data_of t) a st = same
-    meaning_under (print line e) a st = at_under (tag a line) (bound (value_under e a st.env) (λ v. same))
+    meaning_under (print line e) a st =
+        at_under (tag a line) (bound (required_under _ (value_under e a st.env)) (λ v. same))
     meaning_under (choose bs other) a st =
         chosen_under bs a st (meanings cenv c other a) (meanings cenv d other a) (λ st. meanings_under other a st)
     meaning_under (for_each line xs e o body other) a st =
         bound
-        (at_under (tag a line) (bound (value_under e a st.env) (λ v. bound same (λ vs. kept_under o xs a st.env vs))))
+        (at_under (tag a line) (bound (required_under _ (value_under e a st.env))
+        (λ v. bound same (λ vs. kept_under o xs a st.env vs))))
         (λ vs.
         gone_under (λ l. meanings cenv c body (record a { loop = l }))
         (λ l. meanings cenv d body (record a { loop = l })) (λ l st. meanings_under body (record a { loop = l }) st)
@@ -164,7 +173,7 @@ module _ (cenv : CompileEnv) (c d : Calls) (under : (x : Invocation) → Approxi
     meaning_under (with_values line ps body) a st =
         bound (at_under (tag a line) (named_under ps a st.env)) (λ bs. bound (meanings_under body a _) (λ r. same))
     meaning_under (filter_block line fs body) a st =
-        search (arith, rules, bound, same, at_under, through_under, meanings_under body a)
+        search (arith, rules, bound, same, at_under, required_under, through_under, meanings_under body a)
     meaning_under (autoescape line on body) a st = bound (meanings_under body _ _) (λ r. same)
     meaning_under (macro line x ps body) a st = same
     meaning_under (include line n ignore_missing with_context) a st = search (arith, rules, if_under, same, bound)

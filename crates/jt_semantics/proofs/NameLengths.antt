@@ -1,5 +1,5 @@
 -- No name of a program and no text of its pool is longer than the trees of its chains.
-use Rattle.std.proofs.Common.{◌≡◌, ℕ, suc, ◌≤◌, Bool, true, false, if◌then◌else◌, List, [], ◌∷◌, ◌++◌, length, map}
+use Rattle.std.proofs.Common.{◌≡◌, ℕ, suc, ◌≤◌, Bool, List, [], ◌∷◌, ◌++◌, length, map}
 use Rattle.std.proofs.Common.{Option, Some, sym, subst, arith, inl, inr, rules}
 use Rattle.std.specs.Prelude.{flat_map, filter}
 use Rattle.std.specs.List.{AllByRecursion as Each}
@@ -8,8 +8,8 @@ use Rattle.jt_value.specs.Tree.{Tree}
 use Rattle.jt_ast.specs.Expressions as written
 use Rattle.jt_ast.specs.Expressions.{Expr, constant, name, group, list_of, map_of, attribute, item, call, test, unary}
 use Rattle.jt_ast.specs.Expressions.{binary, when, choice, Exprs, no_exprs, expr, Pairs, no_pairs, pair, Text}
-use Rattle.jt_ast.specs.Sizes.{expr_bytes, exprs_bytes, pairs_bytes, texts_bytes, condition_bytes, filter_call_bytes}
-use Rattle.jt_ast.specs.Sizes.{default_bytes, parameters_bytes, stmt_bytes, body_bytes, branch_bytes}
+use Rattle.jt_ast.specs.Sizes.{literal_bytes, expr_bytes, exprs_bytes, pairs_bytes, texts_bytes, condition_bytes}
+use Rattle.jt_ast.specs.Sizes.{filter_call_bytes, default_bytes, parameters_bytes, stmt_bytes, body_bytes, branch_bytes}
 use Rattle.jt_ast.specs.Statements.{Parameter, FilterCall, Stmt, print, choose, for_each, set, set_block, with_values}
 use Rattle.jt_ast.specs.Statements.{filter_block, autoescape, macro, block, Body, end, stmt, Branches, no_branches}
 use Rattle.jt_ast.specs.Statements.{branch}
@@ -18,21 +18,21 @@ use Rattle.jt_chains.specs.Chain.{blocks_under, MacroBody, macros_in, macros}
 use Rattle.jt_chains.specs.Uses.{keywords, set_in, expr_names, row_names, pair_names, condition_names}
 use Rattle.jt_chains.specs.Uses.{filter_call_names, stmt_names, body_names, branch_names, own_names}
 use Rattle.jt_eval.specs.Filters.{default_value}
-use Rattle.jt_ir.specs.Slots as slots
-use Rattle.jt_ir.specs.Slots.{SBody, Routine}
-use Rattle.jt_ir.specs.Pool.{Constant, stmt_values, body_values, routines_values}
+use Rattle.jt_eval.specs.Values.{literal}
+use Rattle.jt_ir.specs.Slots.{Routine}
+use Rattle.jt_ir.specs.Pool.{Constant, body_values, routines_values}
 use Rattle.jt_ids.specs.declared.filter_id.FilterId.{FilterId}
 use Rattle.jt_chains.specs.View.{Seen, sources_of}
 use Rattle.jt_eval.specs.TheFilters.{the_filters, filter_parameters}
 use Rattle.jt_rules.specs.CompileEnv.{CompileEnv, cenv_of}
 use Rattle.jt_semantics.specs.Bytes.{value_bytes, IsShort}
 use Rattle.jt_semantics.specs.Layout.{names, counted_from, block_parameters, defaults_of}
-use Rattle.jt_semantics.specs.Meaning.{is_set}
 use Rattle.jt_semantics.specs.Programs.{program, routines, entry_routines, chain_routines, body_routines}
-use Rattle.jt_semantics.specs.Resolve.{followed, Part, bound_all, resolved_stmt, resolved_body, resolved_sets, top_senv}
+use Rattle.jt_semantics.specs.Resolve.{Part, bound_all, resolved_body, top_senv}
 use Rattle.jt_semantics.specs.Resolve.{resolved_chain, scoped, macro_routine}
 use Rattle.jt_semantics.proofs.Among.{Among, AllAmong, among_left, among_right, each_among, all_among}
-use Rattle.jt_semantics.proofs.ValueBounds.{literal_is, total, Bare, ArePlain, stmt_within, all_within, scope_within}
+use Rattle.jt_semantics.proofs.ValueBounds.{literal_is, most, Bare, ArePlain, chain_within, routine_within}
+use Rattle.jt_semantics.proofs.TreesHaveParts.{AreShort}
 use Rattle.jt_semantics.proofs.NameCounts.{names_from, filters_few}
 use Rattle.jt_semantics.proofs.EachElement.{each_front, each_back, each_append}
 
@@ -41,23 +41,15 @@ use Rattle.jt_semantics.proofs.EachElement.{each_front, each_back, each_append}
 abbrev Shorts : ℕ → List Tree → Type 0
 Shorts n vs = Each (λ v. value_bytes v ≤ n) vs
 
-own_bytes : (v : Tree) → value_bytes v ≤ value_bytes v
-own_bytes v = omega arith
+literal_short : (n : ℕ) (l : written.Literal) → literal_bytes l ≤ n → value_bytes (literal l) ≤ n
+literal_short n l h = omega (arith, literal_is l)
 
-each_short : (n : ℕ) (vs : List Tree) → total value_bytes vs ≤ n → Shorts n vs
+each_short : (n : ℕ) (vs : List Tree) → most value_bytes vs ≤ n → Shorts n vs
 each_short n [] h = tt
-each_short n (v ∷ vs) h = (omega (arith, h), each_short n vs (omega (arith, h)))
+each_short n (v ∷ vs) h = (omega arith, each_short n vs (omega arith))
 
 split : (n : ℕ) (xs ys : List Tree) → Shorts n (xs ++ ys) → Shorts n xs × Shorts n ys
 split n xs ys a = search (arith, rules, each_front, each_back)
-
-followed_short : (n : ℕ) (a b : SBody Constant) → Shorts n (body_values a) → Shorts n (body_values b)
-    → Shorts n (body_values (followed a b))
-followed_short n slots.end b h g = g
-followed_short n (slots.stmt s rest) b h g =
-    let p = split n (stmt_values s) (body_values rest) h in
-    each_append (λ v. value_bytes v ≤ n) (stmt_values s) (body_values (followed rest b)) p.0
-    (followed_short n rest b p.1 g)
 
 -- ---- The bodies of a template are no longer than it
 
@@ -95,10 +87,7 @@ module _ (t : Text) (n : ℕ) where
   top_macros (stmt (macro line x ps body) rest) h = search (arith, rules, top_macros rest)
   top_macros (stmt s rest) h = top_macros rest (omega (arith, h))
 
-abbrev pub TemplatesShort : ℕ → List Template → Type 0
-TemplatesShort n ts = Each (λ t. body_bytes t.body ≤ n) ts
-
-chain_blocks : (n : ℕ) (on : Bool) (ts : List Template) → TemplatesShort n ts
+chain_blocks : (n : ℕ) (on : Bool) (ts : List Template) → AreShort n ts
     → BlocksShort n (flat_map (λ t. blocks_in t.name t.body on) ts)
 chain_blocks n on [] h = tt
 chain_blocks n on (t ∷ ts) h =
@@ -106,7 +95,7 @@ chain_blocks n on (t ∷ ts) h =
     (flat_map (λ u. blocks_in u.name u.body on) ts)
     (body_blocks t.name n t.body on h.0) (chain_blocks n on ts h.1)
 
-chain_macros : (n : ℕ) (ts : List Template) → TemplatesShort n ts
+chain_macros : (n : ℕ) (ts : List Template) → AreShort n ts
     → Each (λ m. (body_bytes m.body ≤ n) × (parameters_bytes m.parameters ≤ n))
     (flat_map (λ t. macros_in t.name t.body) ts)
 chain_macros n [] h = tt
@@ -128,40 +117,22 @@ values_append n (r ∷ a) b h g =
     each_append (λ v. value_bytes v ≤ n) (body_values r.body) (routines_values (a ++ b)) p.0 (values_append n a b p.1 g)
 
 module _ (cenv : CompileEnv) (order : List Namespace) (n : ℕ) (k : Plain cenv) (h : Namespace) where
-  sets_short : (b : Body) (t : Text) → body_bytes b ≤ n
-      → Shorts n (body_values (resolved_sets cenv order b (top_senv cenv order h t)))
-  sets_short end t g = tt
-  sets_short (stmt s rest) t g = through (is_set s) (sets_short rest t (omega (arith, g)))
-    where
-      through : (b : Bool) → Shorts n (body_values (resolved_sets cenv order rest (top_senv cenv order h t)))
-          → Shorts n (body_values (if b then followed (resolved_stmt cenv order s (top_senv cenv order h t))
-          (resolved_sets cenv order rest (top_senv cenv order h t))
-          else resolved_sets cenv order rest (top_senv cenv order h t)))
-      through true r =
-          let c = stmt_within value_bytes own_bytes cenv order k s (top_senv cenv order h t) in
-          followed_short n (resolved_stmt cenv order s (top_senv cenv order h t))
-          (resolved_sets cenv order rest (top_senv cenv order h t))
-          (each_short n (body_values (resolved_stmt cenv order s (top_senv cenv order h t))) (omega (arith, c, g))) r
-      through false r = r
-
-  chain_short : (ts : List Template) → TemplatesShort n ts → Shorts n (body_values (resolved_chain cenv order h ts))
-  chain_short [] g = tt
-  chain_short (t ∷ []) g = search (arith, rules, all_within, own_bytes, each_short)
-  chain_short (t ∷ (u ∷ us)) g =
-      followed_short n (resolved_sets cenv order t.body (top_senv cenv order h t.name))
-      (resolved_chain cenv order h (u ∷ us)) (sets_short t.body t.name g.0) (chain_short (u ∷ us) g.1)
+  chain_short : (ts : List Template) → AreShort n ts → Shorts n (body_values (resolved_chain cenv order h ts))
+  chain_short ts g =
+      each_short n (body_values (resolved_chain cenv order h ts))
+      (chain_within value_bytes n cenv order k (literal_short n) h ts g).1
 
   macros_short : (ms : List MacroBody)
       → Each (λ m. (body_bytes m.body ≤ n) × (parameters_bytes m.parameters ≤ n)) ms
       → Shorts n (routines_values (map (macro_routine cenv order h) ms))
   macros_short [] g = tt
   macros_short (m ∷ ms) g =
-      let sp = bound_all (map (λ p. p.name) m.parameters) (top_senv cenv order h m.template) in
-      let c = scope_within value_bytes own_bytes cenv order k m.body sp in
-      let f = g.0.0 in
+      let xs = map (λ (p : Parameter). p.name) m.parameters in
+      let sp = top_senv cenv order h m.template in
+      let c = routine_within value_bytes n cenv order k (literal_short n) xs m.body sp g.0.0 in
       let r = macro_routine cenv order h m in
       each_append (λ v. value_bytes v ≤ n) (body_values r.body) (routines_values (map (macro_routine cenv order h) ms))
-      (each_short n (body_values r.body) (omega (arith, c, f))) (macros_short ms g.1)
+      (each_short n (body_values r.body) c.1) (macros_short ms g.1)
 
   blocks_short : (i : ℕ) (bs : List BlockBody) → BlocksShort n bs
       → Shorts n (routines_values (body_routines cenv order h (counted_from i bs)))
@@ -169,20 +140,19 @@ module _ (cenv : CompileEnv) (order : List Namespace) (n : ℕ) (k : Plain cenv)
   blocks_short i (b ∷ bs) g =
       let part : Part =
       record { name = b.name; behind = filter (λ c. bytes_eq c.1.name b.name) (counted_from (suc i) bs) } in
-      let sp = bound_all (block_parameters cenv order h b.name)
-      (record (top_senv cenv order h b.template) { escaping = b.escaping; part = Some part }) in
-      let r = scoped (set_in b.body) sp (resolved_body cenv order b.body) in
-      let c = scope_within value_bytes own_bytes cenv order k b.body sp in
-      let f = g.0 in
+      let xs = block_parameters cenv order h b.name in
+      let sp = record (top_senv cenv order h b.template) { escaping = b.escaping; part = Some part } in
+      let r = scoped (set_in b.body) (bound_all xs sp) (resolved_body cenv order b.body) in
+      let c = routine_within value_bytes n cenv order k (literal_short n) xs b.body sp g.0 in
       each_append (λ v. value_bytes v ≤ n) (body_values r)
       (routines_values (body_routines cenv order h (counted_from (suc i) bs)))
-      (each_short n (body_values r) (omega (arith, c, f))) (blocks_short (suc i) bs g.1)
+      (each_short n (body_values r) c.1) (blocks_short (suc i) bs g.1)
 
   entry_short : (g : Namespace) → Shorts n (body_values (resolved_chain cenv order g (templates cenv.sources g)))
       → Shorts n (routines_values (entry_routines cenv order g))
   entry_short g c = search (arith, rules, each_append)
 
-  in_chain : TemplatesShort n (templates cenv.sources h) → Shorts n (routines_values (chain_routines cenv order h))
+  in_chain : AreShort n (templates cenv.sources h) → Shorts n (routines_values (chain_routines cenv order h))
   in_chain g =
       search
       (arith, rules, values_append, entry_short, chain_short, macros_short, chain_macros, blocks_short, chain_blocks)
@@ -292,7 +262,7 @@ module _ (n : ℕ) where
     branches_short (branch line c body rest) h =
         search (arith, rules, names_append, expr_short, body_short body, branches_short rest)
 
-  own_short : (ts : List Template) → TemplatesShort n ts → Names n (flat_map (λ t. body_names t.body) ts)
+  own_short : (ts : List Template) → AreShort n ts → Names n (flat_map (λ t. body_names t.body) ts)
   own_short [] h = tt
   own_short (t ∷ ts) h =
       names_append n (body_names t.body) (flat_map (λ u. body_names u.body) ts) (body_short t.body h.0)
@@ -312,7 +282,7 @@ among_short n (x ∷ xs) ns h a = (at ns h a.0, among_short n xs ns h a.1)
 
 module _ (cenv : CompileEnv) (n : ℕ) where
   abbrev pub ChainsShort : List Namespace → Type 0
-  ChainsShort hs = Each (λ h. TemplatesShort n (templates cenv.sources h)) hs
+  ChainsShort hs = Each (λ h. AreShort n (templates cenv.sources h)) hs
 
   module _ (order : List Namespace) (k : Plain cenv) where
     chains_values : (hs : List Namespace) → ChainsShort hs

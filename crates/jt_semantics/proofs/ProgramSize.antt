@@ -8,36 +8,34 @@ use Rattle.std.specs.Str.{bytes_eq}
 use Rattle.jt_ast.specs.Expressions.{Text}
 use Rattle.jt_ast.specs.Statements.{Parameter, Stmt, choose, for_each, set_block, with_values, filter_block, autoescape}
 use Rattle.jt_ast.specs.Statements.{macro, block, stmt_weight, Body, end, stmt, body_weight, Branches, no_branches}
-use Rattle.jt_ast.specs.Statements.{branch, branch_weight, body_bound}
-use Rattle.jt_chains.specs.Chain.{Sources, Namespace, a_library, same_namespace, listed, Template, templates}
-use Rattle.jt_chains.specs.Chain.{BlockBody, blocks_of, blocks_in, blocks_under, all_bodies, MacroBody, macros_in}
-use Rattle.jt_chains.specs.Chain.{macros}
+use Rattle.jt_ast.specs.Statements.{branch, branch_weight}
+use Rattle.jt_chains.specs.Chain.{Sources, Namespace, a_library, same_namespace, listed, Template, templates, BlockBody}
+use Rattle.jt_chains.specs.Chain.{blocks_of, blocks_in, blocks_under, all_bodies, MacroBody, macros_in, macros}
 use Rattle.jt_eval.specs.Filters.{default_value}
 use Rattle.jt_rules.specs.CompileEnv.{CompileEnv}
-use Rattle.jt_semantics.specs.Meaning.{is_set}
 use Rattle.jt_chains.specs.Uses.{set_in, scope_names}
 use Rattle.jt_semantics.specs.Layout.{first_slot, names, block_parameters, counted_from, numbered_bodies, shared}
 use Rattle.jt_semantics.specs.Layout.{defaults_of, scopes, is_scoped}
 use Rattle.jt_ir.specs.Slots as slots
 use Rattle.jt_ir.specs.Slots.{SlotExpr, SRow, SlotStmt, SBody, Routine}
-use Rattle.jt_ir.specs.Pool.{Constant, expr_values, condition_values, body_values, routines_values}
-use Rattle.jt_ir.specs.Pool.{placed_expr, placed_row, placed_condition, placed_stmt, placed_body, placed_routines}
-use Rattle.jt_semantics.specs.Resolve.{followed, Part, StaticEnv, bound_table, bound_all, scoped, resolved_stmt}
-use Rattle.jt_semantics.specs.Resolve.{resolved_body, resolved_sets, top_senv, resolved_chain, macro_routine}
+use Rattle.jt_ir.specs.Pool.{Constant, expr_values, condition_values, body_values, routines_values, placed_expr}
+use Rattle.jt_ir.specs.Pool.{placed_row, placed_condition, placed_stmt, placed_body, placed_routines}
+use Rattle.jt_semantics.specs.Resolve.{Part, bound_all, scoped, resolved_body, top_senv, resolved_chain}
+use Rattle.jt_semantics.specs.Resolve.{macro_routine}
 use Rattle.jt_semantics.specs.Programs.{body_routines, entry_routines, chain_routines, routines, count_globals, program}
 use Rattle.jt_ir.specs.Size.{expr_size, row_size, condition_size, stmt_size, body_size, routines_size, expr_height}
 use Rattle.jt_ir.specs.Size.{row_height, condition_height, stmt_height, body_height}
 use Rattle.jt_ir.specs.Locals.{body_locals}
-use Rattle.jt_semantics.specs.Measure.{stmt_own, body_own, branch_own, IsFew, HasAtMost, AreFew, IsSized}
+use Rattle.jt_semantics.specs.Measure.{IsFew, HasAtMost, AreFew, IsSized}
+use Rattle.jt_semantics.proofs.FreeNameWeights.{stmt_own, body_own, branch_own, pairs_bound}
 use Rattle.jt_chains.specs.Weights.{templates_weight, chains_weight}
-use Rattle.jt_semantics.proofs.InstructionBounds.{parameters_few, followed_size, stmt_sized, all_sized, scope_sized}
-use Rattle.jt_semantics.proofs.LocalBounds.{Below, globals_below, bound_below, scope_localed, stmt_localed, all_localed}
-use Rattle.jt_semantics.proofs.LocalBounds as locality
-use Rattle.jt_semantics.proofs.ValueBounds.{followed_count, stmt_counted, all_counted, scope_counted}
-use Rattle.jt_semantics.proofs.EntryBounds.{followed_low, stmt_low, all_low, scope_low}
-use Rattle.jt_semantics.proofs.FreeNameWeights.{stmt_free, body_free, AllPaid, MacrosPaid, all_more, macros_more}
-use Rattle.jt_semantics.proofs.FreeNameWeights.{body_paid, templates_bound, templates_pay, chain_blocks, chain_macros}
-use Rattle.jt_semantics.proofs.FreeNameWeights.{scopes_few, parameters_bound}
+use Rattle.jt_semantics.proofs.InstructionBounds.{parameters_few, chain_sized, routine_sized}
+use Rattle.jt_semantics.proofs.LocalBounds.{Below, globals_below, chain_localed, routine_localed}
+use Rattle.jt_semantics.proofs.TreesHaveParts.{templates_own, templates_free}
+use Rattle.jt_semantics.proofs.ValueBounds.{chain_counted, routine_counted}
+use Rattle.jt_semantics.proofs.EntryBounds.{chain_low, routine_low}
+use Rattle.jt_semantics.proofs.FreeNameWeights.{AllPaid, MacrosPaid, all_more, macros_more, body_paid, templates_bound}
+use Rattle.jt_semantics.proofs.FreeNameWeights.{templates_pay, chain_blocks, chain_macros, scopes_few, parameters_bound}
 use Rattle.jt_chains.specs.Includes.{InOrder}
 use Rattle.jt_semantics.proofs.EnvLookup.{namespace_same, namespace_is, no_both}
 use Rattle.jt_semantics.proofs.DefinedNames.{given_all, all_own}
@@ -68,7 +66,7 @@ module _ (t : Text) where
     stmt_once (choose bs other) on = search (arith, rules, bodies_append, branch_once bs on, body_once other on)
     stmt_once (for_each line xs e c body other) on = grind (arith, bodies_append, body_once body on, body_once other on)
     stmt_once (set_block line x body) on = omega (arith, body_once body on)
-    stmt_once (with_values line ps body) on = omega (arith, body_once body on)
+    stmt_once (with_values line ps body) on = omega (arith, pairs_bound ps, body_once body on)
     stmt_once (filter_block line fs body) on = omega (arith, body_once body on)
     stmt_once (autoescape line now body) on = omega (arith, body_once body now)
     stmt_once (macro line x ps body) on = omega (arith, body_once body on)
@@ -94,10 +92,6 @@ module _ (t : Text) where
   top_once (stmt s rest) on =
       omega (arith, top_once rest on, stmt_once s on, bodies_append (blocks_of t s on) (blocks_in t rest on))
 
-abbrev templates_own : List Template → ℕ
-templates_own [] = 0
-templates_own (t ∷ ts) = body_own t.body + templates_own ts
-
 chain_once : (on : Bool) (ts : List Template)
     → templates_own ts + bodies_own (flat_map (λ t. blocks_in t.name t.body on) ts)
     + macros_own (flat_map (λ t. macros_in t.name t.body) ts)
@@ -113,31 +107,14 @@ routines_append (r ∷ a) b = omega (arith, routines_append a b)
 
 module _ (cenv : CompileEnv) (order : List Namespace) (h : Namespace) where
   module _ (k : IsFew cenv order h) where
-    sets_sized : (b : Body) (t : Text)
-        → body_size (resolved_sets cenv order b (top_senv cenv order h t)) ≤ 100 * body_own b
-    sets_sized end t = omega arith
-    sets_sized (stmt s rest) t = search (arith, rules, sets_sized rest t, stmt_sized, followed_size)
-
-    chain_sized : (ts : List Template) → body_size (resolved_chain cenv order h ts) ≤ 100 * templates_own ts
-    chain_sized [] = omega arith
-    chain_sized (t ∷ []) = omega (arith, all_sized cenv order t.body (top_senv cenv order h t.name) k)
-    chain_sized (t ∷ (u ∷ us)) =
-        omega (
-          arith,
-          chain_sized (u ∷ us),
-          sets_sized t.body t.name,
-          followed_size (resolved_sets cenv order t.body (top_senv cenv order h t.name))
-              (resolved_chain cenv order h (u ∷ us)),
-        )
-
     macros_sized : (ms : List MacroBody) → routines_size (map (macro_routine cenv order h) ms) ≤ 100 * macros_own ms
     macros_sized [] = omega arith
-    macros_sized (m ∷ ms) = search (arith, rules, macros_sized ms, scope_sized, all_sized)
+    macros_sized (m ∷ ms) = search (arith, rules, macros_sized ms, routine_sized)
 
     blocks_sized : (n : ℕ) (bs : List BlockBody)
         → routines_size (body_routines cenv order h (counted_from n bs)) ≤ 100 * bodies_own bs
     blocks_sized n [] = omega arith
-    blocks_sized n (b ∷ bs) = search (arith, rules, blocks_sized (suc n) bs, scope_sized, all_sized)
+    blocks_sized n (b ∷ bs) = search (arith, rules, blocks_sized (suc n) bs, routine_sized)
 
     entry_sized : (g : Namespace) → body_size (resolved_chain cenv order g (templates cenv.sources g))
         ≤ 100 * templates_own (templates cenv.sources g)
@@ -146,7 +123,8 @@ module _ (cenv : CompileEnv) (order : List Namespace) (h : Namespace) where
 
     all_in_chain : routines_size (chain_routines cenv order h) ≤ 100 * templates_weight (templates cenv.sources h) + 1
     all_in_chain =
-        search (arith, rules, chain_once, entry_sized, chain_sized, macros_sized, blocks_sized, routines_append)
+        let sized = chain_sized cenv order h k in
+        search (arith, rules, chain_once, entry_sized, sized, macros_sized, blocks_sized, routines_append)
 
 -- ---- Indices into the pool change no size and no height
 
@@ -211,50 +189,16 @@ abbrev Low : ℕ → Routine Constant → Type 0
 Low w r = 2 * body_height r.body ≤ w
 
 module _ (cenv : CompileEnv) (order : List Namespace) (h : Namespace) (q : ℕ) (k : HasAtMost cenv order q h) where
-  sets_low : (b : Body) (t : Text) → body_bound b ≤ q
-      → 2 * body_height (resolved_sets cenv order b (top_senv cenv order h t)) ≤ body_free b + 2 * q
-  sets_low end t g = omega arith
-  sets_low (stmt s rest) t g = through (is_set s) (sets_low rest t (omega (arith, g)))
-    where
-      through : (b : Bool)
-          → 2 * body_height (resolved_sets cenv order rest (top_senv cenv order h t)) ≤ body_free rest + 2 * q
-          → 2 * body_height (if b then followed (resolved_stmt cenv order s (top_senv cenv order h t))
-          (resolved_sets cenv order rest (top_senv cenv order h t))
-          else resolved_sets cenv order rest (top_senv cenv order h t))
-          ≤ stmt_free s + body_free rest + 2 * q
-      through true f =
-          omega (
-            arith,
-            f,
-            stmt_low cenv order q s (top_senv cenv order h t) k (omega (arith, g)),
-            followed_low (resolved_stmt cenv order s (top_senv cenv order h t))
-                (resolved_sets cenv order rest (top_senv cenv order h t)),
-          )
-      through false f = omega (arith, f)
-
-  -- The sequence of templates needs at most the entries of the template that needs most.
-  chain_low : (w : ℕ) (ts : List Template)
-      → Each (λ t. (body_free t.body + 2 * q ≤ w) × (body_bound t.body ≤ q)) ts
-      → 2 * body_height (resolved_chain cenv order h ts) ≤ w
-  chain_low w [] g = omega arith
-  chain_low w (t ∷ []) g =
-      let f = g.0.0 in omega (arith, f, all_low cenv order q t.body (top_senv cenv order h t.name) k g.0.1)
-  chain_low w (t ∷ (u ∷ us)) g = search (arith, rules, chain_low w (u ∷ us) g.1, sets_low, followed_low)
-
   blocks_low : (w n : ℕ) (bs : List BlockBody) → AllPaid w q bs
       → Each (Low (max 2 w)) (body_routines cenv order h (counted_from n bs))
   blocks_low w n [] g = tt
   blocks_low w n (b ∷ bs) g =
       let part : Part =
       record { name = b.name; behind = filter (λ c. bytes_eq c.1.name b.name) (counted_from (suc n) bs) } in
-      let sp = bound_all (block_parameters cenv order h b.name)
-      (record (top_senv cenv order h b.template) { escaping = b.escaping; part = Some part }) in
+      let sp = record (top_senv cenv order h b.template) { escaping = b.escaping; part = Some part } in
       let f = g.0.free in (
-        omega (
-          arith,
-          f,
-          scope_low cenv order q b.body sp (all_low cenv order q b.body (bound_all (set_in b.body) sp) k g.0.bound),
-        ),
+        omega
+            (arith, f, routine_low cenv order q (block_parameters cenv order h b.name) b.body sp k g.0.bound),
         blocks_low w (suc n) bs g.1,
       )
 
@@ -262,22 +206,17 @@ module _ (cenv : CompileEnv) (order : List Namespace) (h : Namespace) (q : ℕ) 
       → Each (Low (max 2 w)) (map (macro_routine cenv order h) ms)
   macros_low w [] g = tt
   macros_low w (m ∷ ms) g =
-      let sp = bound_all (map (λ p. p.name) m.parameters) (top_senv cenv order h m.template) in
+      let xs = map (λ (p : Parameter). p.name) m.parameters in
       let f = g.0.body.free in (
-        omega (
-          arith,
-          f,
-          scope_low cenv order q m.body sp
-              (all_low cenv order q m.body (bound_all (set_in m.body) sp) k g.0.body.bound),
-        ),
+        omega
+            (arith, f, routine_low cenv order q xs m.body (top_senv cenv order h m.template) k g.0.body.bound),
         macros_low w ms g.1,
       )
 
--- Each template of a chain is paid for, with the names that all templates bind.
-templates_each : (w n : ℕ) (ts : List Template) → templates_weight ts + 2 * n ≤ w + 2 * templates_bound ts
-    → templates_bound ts ≤ n → Each (λ t. (body_free t.body + 2 * n ≤ w) × (body_bound t.body ≤ n)) ts
-templates_each w n [] e l = tt
-templates_each w n (t ∷ ts) e l = search (arith, rules, body_paid t.body, templates_pay ts, templates_each w n ts)
+-- A chain is paid for, with the names that all templates bind.
+templates_paid : (ts : List Template) → templates_free ts + 2 * templates_bound ts ≤ templates_weight ts
+templates_paid [] = omega arith
+templates_paid (t ∷ ts) = omega (arith, body_paid t.body, templates_paid ts)
 
 macros_few : (w n : ℕ) (ms : List MacroBody) → MacrosPaid w n ms → Each (λ m. length m.parameters ≤ n) ms
 macros_few w n [] p = tt
@@ -361,7 +300,7 @@ module _ (cenv : CompileEnv) (order : List Namespace) (ordered : InOrder cenv.so
       let k = at_most h known in
       each_append (Low (max 2 w)) (entry_routines cenv order h)
       (map (macro_routine cenv order h) (macros cenv.sources h) ++ body_routines cenv order h (numbered_bodies cenv h))
-      (entry_low h (chain_low cenv order h q k w ts (templates_each w q ts p.paid p.bound)))
+      (entry_low h (let low = chain_low cenv order q h ts k p.bound in omega (arith, low, templates_paid ts, p.paid)))
       (each_append (Low (max 2 w)) (map (macro_routine cenv order h) (macros cenv.sources h))
       (body_routines cenv order h (numbered_bodies cenv h))
       (macros_low cenv order h q k w (macros cenv.sources h) (namespace_macros h known))
@@ -396,33 +335,16 @@ values_append (r ∷ a) b = search (arith, rules, length-append, values_append a
 
 module _ (cenv : CompileEnv) (order : List Namespace) (h : Namespace)
     (k : (f : ℕ) → length (cenv.filters.parameters f) ≤ 3) where
-  sets_counted : (b : Body) (t : Text)
-      → length (body_values (resolved_sets cenv order b (top_senv cenv order h t))) ≤ body_own b
-  sets_counted end t = omega arith
-  sets_counted (stmt s rest) t = search (arith, rules, sets_counted rest t, stmt_counted, followed_count)
-
-  chain_counted : (ts : List Template) → length (body_values (resolved_chain cenv order h ts)) ≤ templates_own ts
-  chain_counted [] = omega arith
-  chain_counted (t ∷ []) = omega (arith, all_counted cenv order k t.body (top_senv cenv order h t.name))
-  chain_counted (t ∷ (u ∷ us)) =
-      omega (
-        arith,
-        chain_counted (u ∷ us),
-        sets_counted t.body t.name,
-        followed_count (resolved_sets cenv order t.body (top_senv cenv order h t.name))
-            (resolved_chain cenv order h (u ∷ us)),
-      )
-
   macros_counted : (ms : List MacroBody)
       → length (routines_values (map (macro_routine cenv order h) ms)) + length (defaults_of ms) ≤ macros_own ms
   macros_counted [] = omega arith
   macros_counted (m ∷ ms) =
-      let sp = bound_all (map (λ p. p.name) m.parameters) (top_senv cenv order h m.template) in
+      let xs = map (λ (p : Parameter). p.name) m.parameters in
       let r = macro_routine cenv order h m in
       omega (
         arith,
         macros_counted ms,
-        scope_counted cenv order k m.body sp,
+        routine_counted cenv order k xs m.body (top_senv cenv order h m.template),
         length-append (body_values r.body) (routines_values (map (macro_routine cenv order h) ms)),
         length-append (map (λ p. default_value p.default) m.parameters) (defaults_of ms),
         length-map m.parameters (λ (p : Parameter). default_value p.default),
@@ -434,13 +356,13 @@ module _ (cenv : CompileEnv) (order : List Namespace) (h : Namespace)
   blocks_counted n (b ∷ bs) =
       let part : Part =
       record { name = b.name; behind = filter (λ c. bytes_eq c.1.name b.name) (counted_from (suc n) bs) } in
-      let sp = bound_all (block_parameters cenv order h b.name)
-      (record (top_senv cenv order h b.template) { escaping = b.escaping; part = Some part }) in
-      let r = scoped (set_in b.body) sp (resolved_body cenv order b.body) in
+      let sp = record (top_senv cenv order h b.template) { escaping = b.escaping; part = Some part } in
+      let xs = block_parameters cenv order h b.name in
+      let r = scoped (set_in b.body) (bound_all xs sp) (resolved_body cenv order b.body) in
       omega (
         arith,
         blocks_counted (suc n) bs,
-        scope_counted cenv order k b.body sp,
+        routine_counted cenv order k xs b.body sp,
         length-append (body_values r) (routines_values (body_routines cenv order h (counted_from (suc n) bs))),
       )
 
@@ -453,7 +375,8 @@ module _ (cenv : CompileEnv) (order : List Namespace) (h : Namespace)
       + length (defaults_of (macros cenv.sources h))
       ≤ templates_weight (templates cenv.sources h)
   counted_in_chain =
-      search (arith, rules, chain_once, entry_counted, chain_counted, macros_counted, blocks_counted, values_append)
+      let counted = chain_counted cenv order k h in
+      search (arith, rules, chain_once, entry_counted, counted, macros_counted, blocks_counted, values_append)
 
   -- A chain has one unit for itself, one for each macro, and one for each body.
   macros_number : (ms : List MacroBody) → length (map (macro_routine cenv order h) ms) ≤ macros_own ms
@@ -504,52 +427,6 @@ module _ (cenv : CompileEnv) (order : List Namespace) (n : ℕ) (some : 1 ≤ n)
   top : (t : Text) → Below n some (top_senv cenv order h t).table
   top t = globals_below n some (first_slot cenv order h) (names cenv order h)
 
-  sets_localed : (b : Body) (t : Text) → body_own b ≤ n
-      → body_locals (resolved_sets cenv order b (top_senv cenv order h t)) ≤ n
-  sets_localed end t k = omega arith
-  sets_localed (stmt s rest) t k = through (is_set s) (sets_localed rest t (omega (arith, k)))
-    where
-      through : (b : Bool) → body_locals (resolved_sets cenv order rest (top_senv cenv order h t)) ≤ n
-          → body_locals (if b then followed (resolved_stmt cenv order s (top_senv cenv order h t))
-          (resolved_sets cenv order rest (top_senv cenv order h t))
-          else resolved_sets cenv order rest (top_senv cenv order h t))
-          ≤ n
-      through true g =
-          omega (
-            arith,
-            g,
-            stmt_localed n some cenv order few s (top_senv cenv order h t) (top t) (omega (arith, k)),
-            locality.followed_local n some (resolved_stmt cenv order s (top_senv cenv order h t))
-                (resolved_sets cenv order rest (top_senv cenv order h t)),
-          )
-      through false g = g
-
-  chain_localed : (ts : List Template) → templates_own ts ≤ n → body_locals (resolved_chain cenv order h ts) ≤ n
-  chain_localed [] k = omega arith
-  chain_localed (t ∷ []) k =
-      all_localed n some cenv order few t.body (top_senv cenv order h t.name) (top t.name) (omega (arith, k))
-  chain_localed (t ∷ (u ∷ us)) k =
-      omega (
-        arith,
-        chain_localed (u ∷ us) (omega (arith, k)),
-        sets_localed t.body t.name (omega (arith, k)),
-        locality.followed_local n some (resolved_sets cenv order t.body (top_senv cenv order h t.name))
-            (resolved_chain cenv order h (u ∷ us)),
-      )
-
-  -- The bound of the locals of a body with parameters.
-  routine_localed : (ps : List Text) (b : Body) (sp : StaticEnv) → Below n some sp.table
-      → sp.free + length ps + body_own b ≤ n
-      → body_locals (scoped (set_in b) (bound_all ps sp) (resolved_body cenv order b)) ≤ n
-  routine_localed ps b sp t k =
-      let inner = bound_all ps sp in
-      let it : Below n some (bound_table ps sp.free sp.table) =
-      bound_below n some ps sp.free sp.table (omega (arith, k)) t in
-      scope_localed n some cenv order few b inner it (omega (arith, k))
-      (all_localed n some cenv order few b (bound_all (set_in b) inner)
-      (bound_below n some (set_in b) (sp.free + length ps) (bound_table ps sp.free sp.table)
-      (omega (arith, k, locality.in_few b)) it) (omega (arith, k)))
-
   macros_localed : (ms : List MacroBody) → Each (λ m. length m.parameters ≤ 200) ms → 200 + macros_own ms ≤ n
       → Each (Holds n) (map (macro_routine cenv order h) ms)
   macros_localed [] f k = tt
@@ -560,7 +437,8 @@ module _ (cenv : CompileEnv) (order : List Namespace) (n : ℕ) (some : 1 ≤ n)
           k,
           f.0,
           l,
-          routine_localed (map (λ p. p.name) m.parameters) m.body (top_senv cenv order h m.template) (top m.template)
+          routine_localed n some cenv order few (map (λ p. p.name) m.parameters) m.body
+              (top_senv cenv order h m.template) (top m.template)
               (omega (arith, k, f.0, l)),
         ),
         macros_localed ms f.1 (omega (arith, k)),
@@ -574,7 +452,12 @@ module _ (cenv : CompileEnv) (order : List Namespace) (n : ℕ) (some : 1 ≤ n)
       record { name = b.name; behind = filter (λ c. bytes_eq c.1.name b.name) (counted_from (suc i) bs) } in
       let sp = record (top_senv cenv order h b.template) { escaping = b.escaping; part = Some part } in
       let ps = block_parameters cenv order h b.name in (
-        omega (arith, k, f b.name, routine_localed ps b.body sp (top b.template) (omega (arith, k, f b.name))),
+        omega (
+          arith,
+          k,
+          f b.name,
+          routine_localed n some cenv order few ps b.body sp (top b.template) (omega (arith, k, f b.name)),
+        ),
         blocks_localed (suc i) bs f (omega (arith, k)),
       )
 
@@ -588,7 +471,7 @@ module _ (cenv : CompileEnv) (order : List Namespace) (n : ℕ) (some : 1 ≤ n)
       let once = chain_once cenv.escaping (templates cenv.sources h) in
       each_append (Holds n) (entry_routines cenv order h)
       (map (macro_routine cenv order h) (macros cenv.sources h) ++ body_routines cenv order h (numbered_bodies cenv h))
-      (entry_localed h (chain_localed (templates cenv.sources h) (omega (arith, room, once))))
+      (entry_localed h (chain_localed n some cenv order few h (templates cenv.sources h) (omega (arith, room, once))))
       (each_append (Holds n) (map (macro_routine cenv order h) (macros cenv.sources h))
       (body_routines cenv order h (numbered_bodies cenv h))
       (macros_localed (macros cenv.sources h)

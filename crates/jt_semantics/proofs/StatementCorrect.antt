@@ -1,5 +1,5 @@
 -- The meaning of a statement by names is its meaning by slots, if the calls agree.
-use Rattle.std.proofs.Common.{◌≡◌, ℕ, suc, ◌+◌, ◌<◌, ◌≤◌, Bool, true, false, if◌then◌else◌, List, [], ◌∷◌, ◌++◌, length}
+use Rattle.std.proofs.Common.{◌≡◌, ℕ, suc, ◌+◌, ◌≤◌, Bool, true, false, if◌then◌else◌, List, [], ◌∷◌, ◌++◌, length}
 use Rattle.std.proofs.Common.{map, Option, Some, None, refl, sym, ap, ◌∙◌, subst, arith, inl, inr, rules}
 use Rattle.std.specs.Prelude.{unwrap_or}
 use Rattle.std.specs.Str.{bytes_eq}
@@ -22,7 +22,7 @@ use Rattle.jt_rules.specs.CompileEnv.{CompileEnv}
 use Rattle.jt_semantics.specs.EvalContext.{Placement, State, the_chain, Calls}
 use Rattle.jt_chains.specs.Uses.{keywords, expr_names, row_names, pair_names, condition_names, filter_call_names}
 use Rattle.jt_chains.specs.Uses.{stmt_names, body_names, branch_names, set_by, set_in, set_under}
-use Rattle.jt_semantics.specs.Expressions.{block_text, value, named_values}
+use Rattle.jt_semantics.specs.Expressions.{block_text, requires_input, value, named_values}
 use Rattle.jt_semantics.specs.Meaning.{put, within, captured, turns, eval_loop, kept, through, meaning, meanings}
 use Rattle.jt_semantics.specs.Meaning.{chosen}
 use Rattle.jt_chains.specs.Includes.{needs_by, needs_in, needs_under}
@@ -50,7 +50,7 @@ use Rattle.jt_semantics.proofs.EnvMemoryAgreement.{pairs_held, copies_held, fits
 use Rattle.jt_semantics.proofs.CallInvariant.{Evaluated, Rowed, Sees, PartHolds, part_kept, part_more, Good, good_kept}
 use Rattle.jt_semantics.proofs.CallInvariant.{good_grown, around_of, Wrote, CallsMean, Laid, Hands, Included}
 use Rattle.jt_semantics.proofs.ExpressionCorrect.{numbered_are, value_same, values_same, asides_same, filter_both}
-use Rattle.jt_semantics.proofs.ExpressionCorrect.{read_gives, reads_give, seen_params, sees_globals}
+use Rattle.jt_semantics.proofs.ExpressionCorrect.{required_both, read_gives, reads_give, seen_params, sees_globals}
 use Rattle.jt_semantics.proofs.ScopesToSlots.{taken, Set, one_set, all_set}
 use Rattle.jt_semantics.proofs.Among.{Among, AllAmong, among_front, among_back, among_both, all_of}
 use Rattle.jt_semantics.proofs.EachElement.{each_front, each_back}
@@ -541,11 +541,13 @@ module _ (cenv : CompileEnv) (order : List Namespace) (calls : Calls) (scall : S
   through_same (f ∷ fs) sp l q env m g e good i u =
       let rest = among_back (row_names f.arguments) (pair_names f.keywords ++ filter_call_names fs) (ns sp) i in
       through_same fs sp l q env m _ _ good (among_back (pair_names f.keywords) (filter_call_names fs) (ns sp) rest)
-      (filter_both cenv order calls scall mean laid l q f.name f.arguments f.keywords sp env e
+      (filter_both cenv order calls scall mean laid l q f.name f.arguments f.keywords sp env
+      (slots.required_if (requires_input cenv.strict (cenv.filters.named f.name f.arguments f.keywords)) e)
       (λ n k. values_same cenv order calls scall mean laid l q f.arguments sp env n (good_kept cenv order good k)
       (among_front (row_names f.arguments) (pair_names f.keywords ++ filter_call_names fs) (ns sp) i))
       (λ n k. asides_same cenv order calls scall mean laid l q f.keywords sp env n (good_kept cenv order good k)
-      (among_front (pair_names f.keywords) (filter_call_names fs) (ns sp) rest)) u)
+      (among_front (pair_names f.keywords) (filter_call_names fs) (ns sp) rest))
+      (required_both cenv order calls scall mean laid l q _ e u))
 
   -- ---- `with`
 
@@ -755,9 +757,12 @@ module _ (cenv : CompileEnv) (order : List Namespace) (calls : Calls) (scall : S
         (sbody (resolved_stmt cenv order s sp) l m)
     stmt_same (data_of t) sp l q b j S st m h i o n d = search (arith, rules, both, stays, kept_out, kept_same)
     stmt_same (print line e) sp l q b j S st m h i o n d =
-        by_right (alone_same (slots.print (place sp line) sp.escaping (resolved cenv order e sp)) l m)
+        by_right (alone_same
+        (slots.print (place sp line) sp.escaping (slots.required_if cenv.strict (resolved cenv order e sp))) l m)
         (at_both (place sp line)
-        (put_shown sp q b j S st m h (value_same cenv order calls scall mean laid l q e sp st.env m h.good i)))
+        (put_shown sp q b j S st m h
+        (required_both cenv order calls scall mean laid l q cenv.strict (resolved cenv order e sp)
+        (value_same cenv order calls scall mean laid l q e sp st.env m h.good i))))
     stmt_same (choose bs other) sp l q b j S st m h i o n d =
         choice_same bs sp l q b j S st (meanings cenv calls other (around_of cenv order sp l q))
         (resolved_body cenv order other sp)
@@ -780,13 +785,15 @@ module _ (cenv : CompileEnv) (order : List Namespace) (calls : Calls) (scall : S
         behind_proper cenv order sp.namespace xs (named (set_in body) ++ (scoped_in body ++ scoped_in other)) d in
         let sets = names_proper cenv order sp.namespace (set_in body) (scoped_in body ++ scoped_in other) d1 in
         let d2 = behind_proper cenv order sp.namespace (set_in body) (scoped_in body ++ scoped_in other) d1 in
-        by_right (alone_same (slots.for_each (place sp line) (fresh_targets sp.free xs) (resolved cenv order e sp)
+        by_right (alone_same (slots.for_each (place sp line) (fresh_targets sp.free xs)
+        (slots.required_if cenv.strict (resolved cenv order e sp))
         (resolved_condition cenv order c (bound_all xs sp))
         (scoped (set_in body) (bound_all xs sp) (resolved_body cenv order body)) (resolved_body cenv order other sp)) l
         m)
         (bind_both {R = Rowed sp.free (lim sp) m}
         (at_both (place sp line)
-        (bind_both (value_same cenv order calls scall mean laid l q e sp st.env m h.good i1) (λ v r w.
+        (bind_both (required_both cenv order calls scall mean laid l q cenv.strict (resolved cenv order e sp)
+        (value_same cenv order calls scall mean laid l q e sp st.env m h.good i1)) (λ v r w.
         by_right (ap (λ z. bind (checked (items_of_value z))
         (λ vs. skept cenv.filters constants scall (resolved_condition cenv order c (bound_all xs sp))
         (fresh_targets sp.free xs) vs r.memory)) w.value)
@@ -866,8 +873,8 @@ module _ (cenv : CompileEnv) (order : List Namespace) (calls : Calls) (scall : S
         by_right (bind_assoc
         (sbody (scoped (set_in body) (grown sp) (resolved_body cenv order body)) l (record m { out = [] }))
         (λ n'. gives (store (local sp.free) (as_value sp.escaping n'.out) (record n' { out = m.out })))
-        (λ n'. sbody (alone (slots.print (place sp line) sp.escaping
-        (resolved_filters cenv order fs (grown sp) (slots.variable (local sp.free))))) l n'))
+        (λ n'. sbody (alone (slots.print (place sp line) sp.escaping (slots.required_if cenv.strict
+        (resolved_filters cenv order fs (grown sp) (slots.variable (local sp.free)))))) l n'))
         (bind_both (caught body (grown sp) l q sp.escaping st.env m (good_grown cenv order h.good)
         (among_front (body_names body) (filter_call_names fs) (ns sp) i)
         (names_proper cenv order sp.namespace (set_in body) (scoped_in body) d)
@@ -881,21 +888,23 @@ module _ (cenv : CompileEnv) (order : List Namespace) (calls : Calls) (scall : S
         let u : Kept sp.free (lim sp) m m2 = kept_then (kept_out (record n' { out = m.out }) refl refl
         (kept_less less (omega arith) w.kept)) one in
         let h' : Here sp q b j S st m2 = record { good = good_kept cenv order h.good u; owns = h.owns; out = h.out } in
-        by_right (alone_same (slots.print (place sp line) sp.escaping
-        (resolved_filters cenv order fs (grown sp) (slots.variable (local sp.free)))) l m2)
+        by_right (alone_same (slots.print (place sp line) sp.escaping (slots.required_if cenv.strict
+        (resolved_filters cenv order fs (grown sp) (slots.variable (local sp.free))))) l m2)
         (at_both (place sp line) (weaken (λ st' n'' y. since (lower h.owns u) y) (put_shown sp q b j S st m2 h'
         (weaken (λ x r y. record {
           value = y.value;
           kept = kept_less less (omega arith) y.kept;
           out = y.out;
         })
+        (required_both cenv order calls scall mean laid l q cenv.strict
+        (resolved_filters cenv order fs (grown sp) (slots.variable (local sp.free)))
         (through_same fs (grown sp) l q st.env m2 (gives v) (slots.variable (local sp.free))
         (good_grown cenv order h'.good) (among_back (body_names body) (filter_call_names fs) (ns sp) i)
         (both (record {
           value = put_here sp.free (as_value sp.escaping n'.out) n'.locals ∙ w.value;
           kept = kept_same (suc sp.free) (lim sp) m2;
           out = refl;
-        })))))))))
+        }))))))))))
     stmt_same (autoescape line on body) sp l q b j S st m h i o n d =
         let sp' : StaticEnv = record sp { escaping = on } in
         let g = good_inside h.good in

@@ -25,11 +25,11 @@ use Rattle.jt_semantics.specs.Programs.{program}
 abbrev pub named : Text → Option ℕ
 named x =
     if bytes_eq x (codes "upper") then Some 0 else if bytes_eq x (codes "length") then Some 1
-    else if bytes_eq x (codes "d") then Some 2 else None
+    else if bytes_eq x (codes "d") then Some 3 else None
 
 abbrev pub parameters : ℕ → List Parameter
 parameters f =
-    if f == 2 then record { name = codes "default_value"; default = Some (e.text []) }
+    if f == 3 then record { name = codes "default_value"; default = Some (e.text []) }
     ∷ record { name = codes "boolean"; default = Some (e.truth false) } ∷ [] else []
 
 abbrev pub upper : Text → Text
@@ -173,7 +173,7 @@ found n [] = None
 found n (b ∷ bs) = if bytes_eq b.0 n then Some b.1 else found n bs
 
 abbrev pub cenv : List (Text × Body) → CompileEnv
-cenv ss = record { filters = small; sources = λ n. found n ss; escaping = true }
+cenv ss = record { filters = small; sources = λ n. found n ss; escaping = true; strict = false }
 
 -- The templates in an order in which no template includes or imports an earlier one. Each is listed
 -- as a chain and as a library, which is harmless for a template that is no library.
@@ -183,8 +183,21 @@ order_of ss = flat_map (λ b. a_chain b.0 ∷ a_library b.0 ∷ []) ss
 abbrev pub meaning_of : List (Text × Body) → Pairs → Eval Text
 meaning_of ss context = mean (cenv ss) (codes "t") context 9
 
+abbrev pub strict : List (Text × Body) → CompileEnv
+strict ss = record (cenv ss) { strict = true }
+
+abbrev pub resolved_in : CompileEnv → List (Text × Body) → Pairs → Eval Text
+resolved_in e ss context = smean small (program e (order_of ss) (a_chain (codes "t"))) context 9
+
+-- The meaning of the entry if templates are strict.
+abbrev pub strict_meaning_of : List (Text × Body) → Pairs → Eval Text
+strict_meaning_of ss context = mean (strict ss) (codes "t") context 9
+
+abbrev pub strict_resolved_meaning : List (Text × Body) → Pairs → Eval Text
+strict_resolved_meaning ss context = resolved_in (strict ss) ss context
+
 abbrev pub resolved_meaning : List (Text × Body) → Pairs → Eval Text
-resolved_meaning ss context = smean small (program (cenv ss) (order_of ss) (a_chain (codes "t"))) context 9
+resolved_meaning ss context = resolved_in (cenv ss) ss context
 
 -- Sources and a context of the entry, with its outcome.
 abbrev pub Example : Type 0

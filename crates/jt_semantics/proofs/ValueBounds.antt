@@ -1,55 +1,36 @@
 -- A resolved tree has at most one constant for each of its tokens, and the texts of its constants
--- have at most the bytes of the texts of its source.
-use Rattle.std.proofs.Common.{◌≡◌, ℕ, zero, suc, ◌+◌, ◌*◌, min, ◌≤◌, Bool, true, false, if◌then◌else◌, List, [], ◌∷◌}
-use Rattle.std.proofs.Common.{◌++◌, length, Option, Some, None, arith, refl, sym, subst, rules}
+-- are no longer than its source.
+use Rattle.std.proofs.Common.{◌≡◌, ℕ, ◌+◌, ◌*◌, max, min, ◌≤◌, List, [], ◌∷◌, ◌++◌, length, Option}
+use Rattle.std.proofs.Common.{arith, refl, rules}
 use Rattle.std.specs.List.{AllByRecursion as Each}
-use Rattle.std.specs.Prelude.{pos}
 use Rattle.jt_value.specs.Tree as tree
-use Rattle.jt_ids.specs.declared.op_id.OpId.TheVariants as op
-use Rattle.jt_ids.specs.declared.test_id.TestId.{TestId}
-use Rattle.jt_ast.specs.Expressions.{Expr, Literal, constant, name, group, list_of, map_of, attribute, item, call}
-use Rattle.jt_ast.specs.Expressions.{filter, test, unary, binary, when, choice, Exprs, no_exprs, expr, Pairs, no_pairs}
-use Rattle.jt_ast.specs.Expressions.{pair, weight, enclosed, exprs_weight, pairs_weight, Text}
-use Rattle.jt_ast.specs.Sizes.{literal_bytes, expr_bytes, exprs_bytes, pairs_bytes, condition_bytes, filter_call_bytes}
-use Rattle.jt_ast.specs.Sizes.{stmt_bytes, body_bytes, branch_bytes}
-use Rattle.jt_semantics.specs.Operators.{OperatorForm, operation, negation, conjunction, disjunction}
-use Rattle.jt_value.specs.Place.{Place}
-use Rattle.jt_chains.specs.Uses.{count, keywords, set_in}
-use Rattle.jt_ast.specs.Statements.{Parameter, FilterCall, Stmt, data_of, print, choose, for_each, set, set_block}
-use Rattle.jt_ast.specs.Statements.{with_values, filter_block, autoescape, include, block, Body, end, stmt, Branches}
-use Rattle.jt_ast.specs.Statements.{no_branches, branch, condition_weight, filter_call_weight}
-use Rattle.jt_chains.specs.Chain.{Namespace, a_chain, given, Callee, a_macro, a_range, a_super, a_block, a_cycle}
-use Rattle.jt_chains.specs.Chain.{no_callee, callee, is_loop}
-use Rattle.jt_ids.specs.declared.loop_field.LoopField.{LoopField}
-use Rattle.jt_ids.specs.declared.loop_field.LoopField.TheVariants.{Index0}
-use Rattle.jt_ids.specs.LoopTable.{field_named}
+use Rattle.jt_ast.specs.Expressions.{Literal, Text}
+use Rattle.jt_ast.specs.Sizes.{literal_bytes, body_bytes}
+use Rattle.jt_chains.specs.Uses.{set_in}
+use Rattle.jt_ast.specs.Statements.{Parameter, Body}
+use Rattle.jt_chains.specs.Chain.{Namespace, Template}
 use Rattle.jt_eval.specs.Filters.{default_value}
-use Rattle.jt_eval.specs.Tests.{test_named}
 use Rattle.jt_eval.specs.Values.{literal}
 use Rattle.jt_rules.specs.CompileEnv.{CompileEnv}
 use Rattle.jt_semantics.specs.Bytes.{value_bytes}
 use Rattle.jt_semantics.specs.Expressions.{filter_parameters}
-use Rattle.jt_semantics.specs.Layout.{Table, slot_in, names}
-use Rattle.jt_semantics.specs.Layout.{first_slot, unit, of_chain}
+use Rattle.jt_semantics.specs.Layout.{globals}
 use Rattle.jt_ir.specs.Slots as slots
-use Rattle.jt_ir.specs.Slots.{Slot, SlotExpr, SRow, SBody, run}
+use Rattle.jt_ir.specs.Slots.{SlotExpr, SRow, SlotStmt, SBody}
 use Rattle.jt_ir.specs.Pool.{Constant, own, known, expr_values, row_values, condition_values, stmt_values, body_values}
-use Rattle.jt_semantics.specs.Resolve.{value_or, turned_round, tested_by, filtered_by, in_form, field_from, followed}
-use Rattle.jt_semantics.specs.Resolve.{locals_from, fresh_targets, filled, filled_some, first_locals, reads, handed_on}
-use Rattle.jt_semantics.specs.Resolve.{Part, StaticEnv, place, bound_all, copied, scoped}
-use Rattle.jt_semantics.specs.Resolve.{invoked_body, invoked_super, invoked, resolved, resolved_row, resolved_asides}
-use Rattle.jt_semantics.specs.Resolve.{resolved_entries, resolved_condition, resolved_filters, resolved_values}
-use Rattle.jt_semantics.specs.Resolve.{placed_body, resolved_stmt, resolved_body, resolved_choice, left_out}
-use Rattle.jt_semantics.specs.Measure.{stmt_own, body_own, branch_own}
-use Rattle.jt_semantics.proofs.InstructionBounds.{expr_some, is_some_weight, none_filled}
+use Rattle.jt_semantics.specs.Resolve.{followed, StaticEnv, bound_all, scoped, resolved_body, resolved_chain}
+use Rattle.jt_semantics.proofs.FreeNameWeights.{body_free, body_own}
+use Rattle.jt_semantics.proofs.TreesHaveParts.{templates_free, templates_own, longest, AreShort, are_short}
+use Rattle.jt_semantics.proofs.TreesHaveParts as parts
+use Rattle.jt_semantics.proofs.EachElement.{each_map}
 
 pub literal_is : (l : Literal) → value_bytes (literal l) ≡ literal_bytes l
 literal_is l = search (arith, rules)
 
--- The sum of the sizes of values.
-abbrev pub total : (tree.Tree → ℕ) → List tree.Tree → ℕ
-total size [] = 0
-total size (v ∷ vs) = size v + total size vs
+-- The size of the largest value.
+abbrev pub most : (tree.Tree → ℕ) → List tree.Tree → ℕ
+most size [] = 0
+most size (v ∷ vs) = max (size v) (most size vs)
 
 -- Holds if the defaults of the parameters have size 0.
 abbrev pub Bare : (tree.Tree → ℕ) → List Parameter → Type 0
@@ -60,324 +41,171 @@ pub record ArePlain (size : tree.Tree → ℕ) (ps : List Parameter) : Type 0 wh
   pub few : length ps ≤ 3
   pub bare : Bare size ps
 
--- The size of a value is at most that of its text.
-module _ (size : tree.Tree → ℕ) (small : (v : tree.Tree) → size v ≤ value_bytes v) where
-  -- Holds if there are at most c values, whose sizes sum up to at most n.
-  abbrev Within : ℕ → ℕ → List tree.Tree → Type 0
-  Within c n vs = (length vs ≤ c) × (total size vs ≤ n)
+-- No value is larger than z.
+module _ (size : tree.Tree → ℕ) (z : ℕ) where
+  abbrev IsSmall : Constant → Type 0
+  IsSmall (own v) = size v ≤ z
+  IsSmall (known i) = Unit {0}
 
-  -- Holds if there are at most c values and size n more than in the other list.
-  abbrev Adds : ℕ → ℕ → List tree.Tree → List tree.Tree → Type 0
-  Adds c n vs ws = (length vs ≤ c + length ws) × (total size vs ≤ n + total size ws)
+  abbrev Small : parts.Parts
+  Small = record {
+    slot = λ s. Unit {0};
+    constant = IsSmall;
+    called = λ c. Unit {0};
+    filtered = λ c. c ≤ 3;
+    targets = λ c. Unit {0};
+    names = λ c. Unit {0};
+  }
 
-  -- Holds if there are as many values as in two lists, and their sizes have the same sum.
+  -- Holds if there are at most c values, none of which is larger than z.
+  abbrev Within : ℕ → List tree.Tree → Type 0
+  Within c vs = (length vs ≤ c) × (most size vs ≤ z)
+
+  -- Holds if there are at most c values more in the second list, none of which is larger than z.
+  abbrev Adds : ℕ → List tree.Tree → List tree.Tree → Type 0
+  Adds c vs ws = (length ws ≤ c + length vs) × (most size ws ≤ max z (most size vs))
+
+  -- Holds if the first list has the values of the other two.
   abbrev Joins : List tree.Tree → List tree.Tree → List tree.Tree → Type 0
-  Joins vs a b = (length vs ≡ length a + length b) × (total size vs ≡ total size a + total size b)
+  Joins vs a b = (length vs ≡ length a + length b) × (most size vs ≡ max (most size a) (most size b))
 
-  pub values_append : (a b : List tree.Tree) → Joins (a ++ b) a b
+  values_append : (a b : List tree.Tree) → Joins (a ++ b) a b
   values_append [] b = omega arith
   values_append (v ∷ a) b = omega (arith, values_append a b)
 
-  either_within : (b : Bool) (x y : SlotExpr Constant) (c n : ℕ) → Within c n (expr_values x)
-      → Within c n (expr_values y) → Within c n (expr_values (if b then x else y))
-  either_within b x y c n h k = search (arith, rules)
-
-  known_within : (s : Option Slot) (i : ℕ) → Within 0 0 (expr_values (value_or s (known i)))
-  known_within s i = search (arith, rules)
-
-  own_within : (s : Option Slot) (v : tree.Tree) → Within 1 (size v) (expr_values (value_or s (own v)))
-  own_within s v = search (arith, rules)
-
-  field_within : (f : Option LoopField) → Within 0 0 (expr_values (field_from f))
-  field_within f = search (arith, rules)
-
-  pair_joins : (a b : SlotExpr Constant)
-      → Joins (row_values (slots.item a (slots.item b slots.none))) (expr_values a) (expr_values b)
-  pair_joins a b = search (arith, rules, values_append)
-
-  single_joins : (a : SlotExpr Constant) → Joins (row_values (slots.item a slots.none)) (expr_values a) []
-  single_joins a = values_append (expr_values a) []
-
-  turned_adds : (b : Bool) (e : SlotExpr Constant) → Adds 0 0 (expr_values (turned_round b e)) (expr_values e)
-  turned_adds b e = search (arith, rules, single_joins)
-
-  tested_adds : (t : Option TestId) (es : SRow Constant) → Adds 0 0 (expr_values (tested_by t es)) (row_values es)
-  tested_adds t es = search (arith, rules)
-
-  filtered_adds : (f : Option ℕ) (b : Bool) (es : SRow Constant)
-      → Adds 0 0 (expr_values (filtered_by f b es)) (row_values es)
-  filtered_adds f b es = search (arith, rules)
-
-  form_adds : (f : OperatorForm) (a b : SlotExpr Constant)
-      → Adds (length (expr_values a)) (total size (expr_values a)) (expr_values (in_form f a b)) (expr_values b)
-  form_adds (operation o) a b = omega (arith, pair_joins a b)
-  form_adds (negation o) a b =
-      omega
-      (arith, pair_joins a b, single_joins (slots.made (slots.operator o) (slots.item a (slots.item b slots.none))))
-  form_adds conjunction a b = omega (arith, values_append (expr_values a) (expr_values b))
-  form_adds disjunction a b = omega (arith, values_append (expr_values a) (expr_values b))
-
-  filled_within : (ps : List Parameter) (n d : ℕ) (ks : Table) → Within 0 0 (row_values (filled ps n d ks))
-  filled_within [] n d ks = omega arith
-  filled_within (p ∷ ps) (suc n) d ks = filled_within ps n (suc d) ks
-  filled_within (p ∷ ps) zero d ks = search (arith, rules, known_within, values_append, filled_within ps zero)
-
-  some_within : (ps : List Parameter) (n : ℕ) (xs : List Text) (ks : Table) → Bare size ps
-      → Within (length ps) 0 (row_values (filled_some ps n xs ks))
-  some_within [] n xs ks k = omega arith
-  some_within (p ∷ ps) (suc n) xs ks k = omega (arith, some_within ps n xs ks k.1)
-  some_within (p ∷ ps) zero xs ks k = search (arith, rules, some_within ps zero xs ks k.1, own_within, values_append)
-
-  few_within : (ps : List Parameter) (n : ℕ) (xs : List Text) (ks : Table) → ArePlain size ps
-      → Within (3 * min 1 (length xs)) 0 (row_values (filled_some ps n xs ks))
-  few_within ps n [] ks h = subst (λ es. Within 0 0 (row_values es)) (sym (none_filled ps n ks)) (omega arith)
-  few_within ps n (x ∷ xs) ks h = omega (arith, h.few, some_within ps n (x ∷ xs) ks h.bare)
-
-  first_within : (n : ℕ) (xs : List Text) → Within 0 0 (row_values (first_locals n xs))
-  first_within n [] = omega arith
-  first_within n (x ∷ xs) = first_within (suc n) xs
-
-  reads_within : (t : Table) (xs : List Text) → Within 0 0 (row_values (reads t xs))
-  reads_within t [] = omega arith
-  reads_within t (x ∷ xs) = search (arith, rules, known_within, values_append, reads_within t xs)
-
-  pub followed_joins : (a b : SBody Constant) → Joins (body_values (followed a b)) (body_values a) (body_values b)
+  followed_joins : (a b : SBody Constant) → Joins (body_values (followed a b)) (body_values a) (body_values b)
   followed_joins slots.end b = omega arith
   followed_joins (slots.stmt s rest) b = search (arith, rules, values_append, followed_joins rest b)
 
-  alone_joins : (s : slots.SlotStmt Constant) → Joins (body_values (slots.stmt s slots.end)) (stmt_values s) []
-  alone_joins s = values_append (stmt_values s) []
+  read_within : {e : SlotExpr Constant} → parts.IsRead Small e → Within 0 (expr_values e)
+  read_within e = search (arith, rules)
 
-  copied_adds : (p : Place) (t : Table) (n : ℕ) (xs : List Text) (b : SBody Constant)
-      → Adds 0 0 (body_values (copied p t n xs b)) (body_values b)
-  copied_adds p t n [] b = omega arith
-  copied_adds p t n (x ∷ xs) b =
-      omega (
-        arith,
-        known_within (slot_in x t) 0,
-        copied_adds p t (suc n) xs b,
-        values_append (expr_values (value_or (slot_in x t) (known 0))) (body_values (copied p t (suc n) xs b)),
-      )
+  leaf_within : {e : SlotExpr Constant} → parts.IsLeaf Small e → Within 1 (expr_values e)
+  leaf_within e = search (arith, rules, read_within)
 
-  handed_within : (p : Place) (t : Table) (n : ℕ) (xs : List Text) → Within 0 0 (body_values (handed_on p t n xs))
-  handed_within p t n [] = omega arith
-  handed_within p t n (x ∷ xs) =
-      omega (
-        arith,
-        known_within (slot_in x t) 0,
-        handed_within p t (suc n) xs,
-        values_append (expr_values (value_or (slot_in x t) (known 0))) (body_values (handed_on p t (suc n) xs)),
-      )
+  loads_within : {n c : ℕ} {es : SRow Constant} → parts.LoadsOf Small n c es → Within c (row_values es)
+  loads_within parts.no_loads = omega arith
+  loads_within (parts.load l e es) = search (arith, rules, values_append, read_within e, loads_within es)
+  loads_within (parts.default k es) = omega (arith, loads_within es)
 
-  abbrev Front : ℕ → ℕ → (SRow Constant → SRow Constant) → Type 0
-  Front c n f = (b : SRow Constant) → Adds c n (row_values (f b)) (row_values b)
+  mutual
+    expr_within : {w : ℕ} {e : SlotExpr Constant} → parts.ExprOf Small w e → Within w (expr_values e)
+    expr_within (parts.leaf e) = leaf_within e
+    expr_within (parts.single a) = search (arith, rules, values_append, expr_within a)
+    expr_within (parts.pair a b) = search (arith, rules, values_append, operand_within a, operand_within b)
+    expr_within (parts.operation es) = omega (arith, row_within es)
+    expr_within (parts.filter f l k es) = omega (arith, row_within es)
+    expr_within (parts.both a b) = search (arith, rules, values_append, operand_within a, operand_within b)
+    expr_within (parts.either a b) = search (arith, rules, values_append, operand_within a, operand_within b)
+    expr_within (parts.when c a b) =
+        search (arith, rules, values_append, expr_within c, expr_within a, read_within b)
+    expr_within (parts.chosen c a b) =
+        search (arith, rules, values_append, expr_within c, expr_within a, expr_within b)
+    expr_within (parts.call f l es) = omega (arith, row_within es)
+    expr_within (parts.more l e) = omega (arith, expr_within e)
+
+    operand_within : {w : ℕ} {e : SlotExpr Constant} → parts.OperandOf Small w e → Within w (expr_values e)
+    operand_within (parts.plain e) = expr_within e
+    operand_within (parts.needed e) = search (arith, rules, values_append, expr_within e)
+
+    -- Arguments by name leave room for three defaults.
+    row_within : {w v n c : ℕ} {es : SRow Constant} → parts.RowOf Small w v n c es
+        → (length (row_values es) + 3 * min 1 v ≤ w + v + c) × (most size (row_values es) ≤ z)
+    row_within (parts.loads l) = omega (arith, loads_within l)
+    row_within (parts.named s e es) = search (arith, rules, values_append, expr_within e, row_within es)
+    row_within (parts.positional e es) = search (arith, rules, values_append, operand_within e, row_within es)
+    row_within (parts.wider l es) = omega (arith, row_within es)
+
+  condition_within : {w : ℕ} {c : Option (SlotExpr Constant)} → parts.ConditionOf Small w c
+      → Within w (condition_values c)
+  condition_within parts.no_condition = omega arith
+  condition_within (parts.condition c) = omega (arith, expr_within c)
+
+  copies_add : {c : ℕ} {a b : SBody Constant} → parts.CopiesOf Small c a b → Adds 0 (body_values a) (body_values b)
+  copies_add parts.no_copies = omega arith
+  copies_add (parts.copy s e c) = search (arith, rules, values_append, read_within e, copies_add c)
+
+  values_add : {w c : ℕ} {a b : SBody Constant} → parts.ValuesOf Small w c a b
+      → Adds w (body_values a) (body_values b)
+  values_add parts.no_values = omega arith
+  values_add (parts.value s e v) = search (arith, rules, values_append, expr_within e, values_add v)
+
+  mutual
+    stmt_within : {w m c : ℕ} {s : SlotStmt Constant} → parts.StmtOf Small w m c s → Within w (stmt_values s)
+    stmt_within (parts.data_part k) = omega arith
+    stmt_within (parts.print_part e) = omega (arith, operand_within e)
+    stmt_within (parts.set_part f xs e) = omega (arith, expr_within e)
+    stmt_within (parts.branch_part e a b) =
+        search (arith, rules, values_append, expr_within e, body_within a, body_within b)
+    stmt_within (parts.loop_part f xs e c body other) =
+        search (
+          arith,
+          rules,
+          values_append,
+          operand_within e,
+          condition_within c,
+          body_within body,
+          body_within other,
+        )
+    stmt_within (parts.capture_part l s body) = omega (arith, body_within body)
+    stmt_within (parts.run_part f l es) = omega (arith, loads_within es)
+
+    body_within : {w m c : ℕ} {b : SBody Constant} → parts.BodyOf Small w m c b → Within w (body_values b)
+    body_within parts.empty = omega arith
+    body_within (parts.alone s) = search (arith, rules, values_append, stmt_within s)
+    body_within (parts.after x y) = search (arith, rules, followed_joins, body_within x, body_within y)
+    body_within (parts.scope l c b) = omega (arith, copies_add c, body_within b)
+    body_within (parts.within v b) = omega (arith, values_add v, body_within b)
+    body_within (parts.handed f c) = omega (arith, copies_add c)
+    body_within (parts.wide l m k b) = omega (arith, body_within b)
 
   module _ (cenv : CompileEnv) (order : List Namespace)
-      (plain : (i : ℕ) → ArePlain size (cenv.filters.parameters i)) where
-    body_within : (h : Namespace) (on : Bool) (i : Option ℕ) (es : SRow Constant) → Within 0 0 (row_values es)
-        → Within 0 0 (expr_values (invoked_body cenv order h on i es))
-    body_within h on i es k = search (arith, rules)
-
-    super_within : (sp : StaticEnv) (p : Option Part) → Within 0 0 (expr_values (invoked_super cenv order sp p))
-    super_within sp None = omega arith
-    super_within sp (Some p) = search (arith, rules, body_within, first_within)
-
-    invoked_within : (e : Callee) (sp : StaticEnv) (row asides : SRow Constant → SRow Constant) (i : ℕ) (ks : Table)
-        (c d n m : ℕ)
-        → Front c n row → Front d m asides
-        → Within (enclosed (c + d)) (n + m) (expr_values (invoked cenv order e sp row asides i ks))
-    invoked_within (a_macro z f) sp row asides i ks c d n m r a = search (arith, rules, filled_within)
-    invoked_within a_range sp row asides i ks c d n m r a = omega (arith, r slots.none)
-    invoked_within a_super sp row asides i ks c d n m r a = omega (arith, super_within sp sp.part)
-    invoked_within (a_block x) sp row asides i ks c d n m r a = search (arith, rules, body_within, reads_within)
-    invoked_within a_cycle sp row asides i ks c d n m r a =
-        let index : SlotExpr Constant = slots.made (slots.operator op.Remainder)
-        (slots.item (slots.field Index0) (slots.item (slots.pooled (own (tree.number (pos i)))) slots.none)) in
-        omega (
-          arith,
-          r slots.none,
-          pair_joins (slots.made slots.a_list (row slots.none)) index,
-          small (tree.number (pos i)),
-        )
-    invoked_within no_callee sp row asides i ks c d n m r a = omega arith
+      (plain : (i : ℕ) → ArePlain size (cenv.filters.parameters i))
+      (small : (l : Literal) → literal_bytes l ≤ z → size (literal l) ≤ z) where
+    abbrev Any : Namespace → Type 0
+    Any h = Unit {0}
 
     filter_plain : (f : Option ℕ) → ArePlain size (filter_parameters cenv.filters f)
     filter_plain f = search (arith, rules)
 
-    mutual
-      expr_within : (e : Expr) (sp : StaticEnv)
-          → Within (weight e) (expr_bytes e) (expr_values (resolved cenv order e sp))
-      expr_within (constant l) sp = omega (arith, expr_some (constant l), small (literal l), literal_is l)
-      expr_within (name x) sp = omega (arith, known_within (slot_in x sp.table) 0)
-      expr_within (group a) sp = omega (arith, expr_within a sp)
-      expr_within (list_of ts) sp = omega (arith, row_adds ts sp slots.none)
-      expr_within (map_of ps) sp = omega (arith, entries_within ps sp)
-      expr_within (attribute a x) sp =
-          either_within (is_loop a) (field_from (field_named x))
-          (slots.made (slots.operator op.Item)
-          (slots.item (resolved cenv order a sp) (slots.item (slots.pooled (own (tree.text x))) slots.none)))
-          (2 + weight a) (expr_bytes a + length x) (omega (arith, field_within (field_named x)))
-          (omega (
-            arith,
-            expr_within a sp,
-            pair_joins (resolved cenv order a sp) (slots.pooled (own (tree.text x))),
-            small (tree.text x),
-          ))
-      expr_within (item a b) sp =
-          omega
-          (arith, expr_within a sp, expr_within b sp, pair_joins (resolved cenv order a sp) (resolved cenv order b sp))
-      expr_within (call f ts ps) sp =
-          omega (
-            arith,
-            invoked_within (callee cenv.sources (given cenv.sources sp.namespace) f) sp (resolved_row cenv order ts sp)
-                (resolved_asides cenv order ps sp) (count ts) (locals_from sp.free (keywords ps))
-                (exprs_weight ts) (pairs_weight 2 ps) (exprs_bytes ts) (pairs_bytes ps) (λ b. row_adds ts sp b)
-                (λ b. omega (arith, asides_adds ps sp b)),
-          )
-      expr_within (filter a x ts ps) sp =
-          let i = cenv.filters.named x ts ps in
-          let ks = locals_from sp.free (keywords ps) in
-          let rest = filled_some (filter_parameters cenv.filters i) (count ts) (keywords ps) ks in
-          let es = resolved_row cenv order ts sp (resolved_asides cenv order ps sp rest) in
-          omega (
-            arith,
-            filtered_adds i sp.escaping (slots.item (resolved cenv order a sp) es),
-            values_append (expr_values (resolved cenv order a sp)) (row_values es),
-            expr_within a sp,
-            row_adds ts sp (resolved_asides cenv order ps sp rest),
-            asides_adds ps sp rest,
-            few_within (filter_parameters cenv.filters i) (count ts) (keywords ps) ks (filter_plain i),
-          )
-      expr_within (test a n x ts ps) sp =
-          let es = resolved_row cenv order ts sp slots.none in
-          omega (
-            arith,
-            turned_adds n (tested_by (test_named x) (slots.item (resolved cenv order a sp) es)),
-            tested_adds (test_named x) (slots.item (resolved cenv order a sp) es),
-            values_append (expr_values (resolved cenv order a sp)) (row_values es),
-            expr_within a sp,
-            row_adds ts sp slots.none,
-            is_some_weight n,
-          )
-      expr_within (unary u a) sp = omega (arith, expr_within a sp, single_joins (resolved cenv order a sp))
-      expr_within (binary b x y) sp = search (arith, rules, form_adds, expr_within x sp, expr_within y sp)
-      expr_within (when c a) sp = search (arith, rules, values_append, expr_within c sp, expr_within a sp)
-      expr_within (choice c a b) sp =
-          search (arith, rules, values_append, expr_within c sp, expr_within a sp, expr_within b sp)
+    meets : (n : ℕ) → parts.Meets Small n z cenv order Any
+    meets n = record {
+      first = tt;
+      locals = λ i l. tt;
+      global_slots = λ h i l k. tt;
+      tables = λ h. parts.all_fine Small (λ s. tt) (globals cenv order h);
+      undefined = tt;
+      literals = small;
+      macros = λ h k f c b e. (tt, λ i l g. tt);
+      blocks = λ h k x. tt;
+      parameters = λ h x i l. tt;
+      filters =
+          λ h k f. (
+            (filter_plain f).few,
+            each_map (λ p. size (default_value p.default) ≡ 0) (λ p. size (default_value p.default) ≤ z)
+                (filter_parameters cenv.filters f) (λ p e. omega arith) (filter_plain f).bare,
+          );
+      name_counts = λ h k l. tt;
+    }
 
-      row_adds : (ts : Exprs) (sp : StaticEnv) (b : SRow Constant)
-          → Adds (exprs_weight ts) (exprs_bytes ts) (row_values (resolved_row cenv order ts sp b)) (row_values b)
-      row_adds no_exprs sp b = omega arith
-      row_adds (expr a ts) sp b = search (arith, rules, values_append, expr_within a sp, row_adds ts sp b)
+    pub chain_within : (h : Namespace) (ts : List Template) → AreShort z ts
+        → Within (templates_free ts) (body_values (resolved_chain cenv order h ts))
+    chain_within h ts y =
+        let n = templates_own ts in
+        body_within (parts.chain_of Small n z cenv order Any (meets n) h ts tt (omega arith) y (λ i l. tt))
 
-      asides_adds : (ps : Pairs) (sp : StaticEnv) (b : SRow Constant)
-          → (length (row_values (resolved_asides cenv order ps sp b)) + 3 * min 1 (length (keywords ps))
-          ≤ pairs_weight 2 ps + length (row_values b))
-          × (total size (row_values (resolved_asides cenv order ps sp b)) ≤ pairs_bytes ps + total size (row_values b))
-      asides_adds no_pairs sp b = omega arith
-      asides_adds (pair x a ps) sp b = search (arith, rules, values_append, expr_within a sp, asides_adds ps)
-
-      entries_within : (ps : Pairs) (sp : StaticEnv)
-          → Within (pairs_weight 3 ps) (pairs_bytes ps) (row_values (resolved_entries cenv order ps sp))
-      entries_within no_pairs sp = omega arith
-      entries_within (pair x a ps) sp = search (arith, rules, values_append, expr_within a sp, entries_within ps sp)
-
-    -- ---- Statements
-
-    condition_within : (c : Option Expr) (sp : StaticEnv)
-        → Within (condition_weight c) (condition_bytes c) (condition_values (resolved_condition cenv order c sp))
-    condition_within None sp = omega arith
-    condition_within (Some c) sp = omega (arith, expr_within c sp)
-
-    filters_add : (fs : List FilterCall) (sp : StaticEnv) (e : SlotExpr Constant)
-        → Adds (filter_call_weight fs) (filter_call_bytes fs) (expr_values (resolved_filters cenv order fs sp e))
-        (expr_values e)
-    filters_add [] sp e = omega arith
-    filters_add (f ∷ fs) sp e =
-        grind (arith, filtered_adds, values_append, row_adds, asides_adds, few_within, filter_plain, filters_add fs sp)
-
-    values_add : (ps : Pairs) (sp : StaticEnv) (line : ℕ) (b : SBody Constant)
-        → Adds (pairs_weight 2 ps) (pairs_bytes ps) (body_values (resolved_values cenv order ps sp line b))
-        (body_values b)
-    values_add no_pairs sp line b = omega arith
-    values_add (pair x e ps) sp line b = search (arith, rules, expr_within, values_append, values_add ps)
-
-    placed_within : (sp : StaticEnv) (i : Option ℕ) (x : Text) (t : Table)
-        → Within 0 0 (body_values (placed_body cenv order sp i x t))
-    placed_within sp None x t = omega arith
-    placed_within sp (Some i) x t = search (arith, rules, reads_within, values_append)
-
-    include_within : (sp : StaticEnv) (line : ℕ) (n : Text) (missing c : Bool) (b : Bool)
-        → Within 0 0 (body_values (if b then left_out sp line missing
-        else followed (handed_on (place sp line) (if c then sp.table else []) (first_slot cenv order (a_chain n))
-        (names cenv order (a_chain n)))
-        (slots.stmt (run (unit cenv order (of_chain n)) slots.none) slots.end)))
-    include_within sp line n true c true = omega arith
-    include_within sp line n false c true = omega arith
-    include_within sp line n missing c false = search (arith, rules, handed_within, followed_joins)
-
-    inner_within : (b : Body) (sp : StaticEnv)
-        → Within (body_own b) (body_bytes b) (body_values (resolved_body cenv order b (bound_all (set_in b) sp)))
-        → Within (body_own b) (body_bytes b) (body_values (scoped (set_in b) sp (resolved_body cenv order b)))
-    inner_within b sp h = search (arith, rules, copied_adds)
-
-    mutual
-      pub stmt_within : (s : Stmt) (sp : StaticEnv)
-          → Within (stmt_own s) (stmt_bytes s) (body_values (resolved_stmt cenv order s sp))
-      stmt_within (choose bs other) sp = search (arith, rules, choice_adds bs sp, all_within other sp)
-      stmt_within (for_each line xs e c body other) sp =
-          let inner = bound_all xs sp in
-          let b = scoped (set_in body) inner (resolved_body cenv order body) in
-          let d = resolved_body cenv order other sp in
-          let i = resolved_condition cenv order c inner in
-          let v = resolved cenv order e sp in
-          omega (
-            arith,
-            alone_joins (slots.for_each (place sp line) (fresh_targets sp.free xs) v i b d),
-            values_append (expr_values v) (condition_values i ++ (body_values b ++ body_values d)),
-            values_append (condition_values i) (body_values b ++ body_values d),
-            values_append (body_values b) (body_values d),
-            expr_within e sp,
-            condition_within c inner,
-            inner_within body inner (all_within body (bound_all (set_in body) inner)),
-            all_within other sp,
-          )
-      stmt_within (set_block line x body) sp = search (arith, rules, inner_within, values_append, all_within body)
-      stmt_within (with_values line ps body) sp = search (arith, rules, values_add, inner_within, all_within body)
-      stmt_within (filter_block line fs body) sp =
-          search (arith, rules, inner_within, filters_add, values_append, all_within body)
-      stmt_within (autoescape line on body) sp = search (arith, rules, inner_within, all_within body)
-      stmt_within (include line n missing with_context) sp = search (arith, rules, include_within)
-      stmt_within (block line x is required body) sp = search (arith, rules, placed_within)
-      stmt_within (data_of t) sp = omega (arith, small (tree.text t))
-      stmt_within (print line e) sp = search (arith, rules, expr_within, values_append)
-      stmt_within (set line xs e) sp = search (arith, rules, expr_within, values_append)
-      stmt_within s sp = omega arith
-
-      pub all_within : (b : Body) (sp : StaticEnv)
-          → Within (body_own b) (body_bytes b) (body_values (resolved_body cenv order b sp))
-      all_within end sp = omega arith
-      all_within (stmt s rest) sp = search (arith, rules, followed_joins, stmt_within s sp, all_within rest sp)
-
-      choice_adds : (bs : Branches) (sp : StaticEnv) (other : SBody Constant)
-          → Adds (branch_own bs) (branch_bytes bs) (body_values (resolved_choice cenv order bs sp other))
-          (body_values other)
-      choice_adds no_branches sp other = omega arith
-      choice_adds (branch line c body rest) sp other =
-          search (arith, rules, expr_within, values_append, all_within body sp, choice_adds rest sp other)
-
-    pub scope_within : (b : Body) (sp : StaticEnv)
-        → Within (body_own b) (body_bytes b) (body_values (scoped (set_in b) sp (resolved_body cenv order b)))
-    scope_within b sp = inner_within b sp (all_within b (bound_all (set_in b) sp))
+    pub routine_within : (xs : List Text) (b : Body) (sp : StaticEnv) → body_bytes b ≤ z
+        → Within (body_free b) (body_values (scoped (set_in b) (bound_all xs sp) (resolved_body cenv order b)))
+    routine_within xs b sp y =
+        let n = sp.free + (length xs + body_own b) in
+        body_within
+        (parts.routine_of Small n z cenv order Any (meets n) xs b sp tt (parts.all_fine Small (λ s. tt) sp.table)
+        (omega arith) (λ i l. tt))
 
 -- ---- The number of constants alone
 
 abbrev no_size : tree.Tree → ℕ
 no_size v = 0
-
-pub followed_count : (a b : SBody Constant)
-    → length (body_values (followed a b)) ≡ length (body_values a) + length (body_values b)
-followed_count a b = (followed_joins no_size (λ v. omega arith) a b).0
 
 module _ (cenv : CompileEnv) (order : List Namespace) (few : (i : ℕ) → length (cenv.filters.parameters i) ≤ 3) where
   all_plain : (i : ℕ) → ArePlain no_size (cenv.filters.parameters i)
@@ -387,12 +215,16 @@ module _ (cenv : CompileEnv) (order : List Namespace) (few : (i : ℕ) → lengt
       bare [] = tt
       bare (p ∷ ps) = (refl, bare ps)
 
-  pub stmt_counted : (s : Stmt) (sp : StaticEnv) → length (body_values (resolved_stmt cenv order s sp)) ≤ stmt_own s
-  stmt_counted s sp = (stmt_within no_size (λ v. omega arith) cenv order all_plain s sp).0
+  pub chain_counted : (h : Namespace) (ts : List Template)
+      → length (body_values (resolved_chain cenv order h ts)) ≤ templates_own ts
+  chain_counted h ts =
+      let z = longest ts in
+      let all = chain_within no_size z cenv order all_plain (λ l b. omega arith) h ts (are_short z ts (omega arith)) in
+      omega arith
 
-  pub all_counted : (b : Body) (sp : StaticEnv) → length (body_values (resolved_body cenv order b sp)) ≤ body_own b
-  all_counted b sp = (all_within no_size (λ v. omega arith) cenv order all_plain b sp).0
-
-  pub scope_counted : (b : Body) (sp : StaticEnv)
-      → length (body_values (scoped (set_in b) sp (resolved_body cenv order b))) ≤ body_own b
-  scope_counted b sp = (scope_within no_size (λ v. omega arith) cenv order all_plain b sp).0
+  pub routine_counted : (xs : List Text) (b : Body) (sp : StaticEnv)
+      → length (body_values (scoped (set_in b) (bound_all xs sp) (resolved_body cenv order b))) ≤ body_own b
+  routine_counted xs b sp =
+      let z = body_bytes b in
+      let all = routine_within no_size z cenv order all_plain (λ l b. omega arith) xs b sp (omega arith) in
+      omega arith

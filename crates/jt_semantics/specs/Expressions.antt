@@ -1,5 +1,6 @@
 -- The meaning of expressions, by names.
-use Rattle.std.specs.Prelude.{ℕ, pos, List, [], ◌∷◌, length, Bool, true, false, Option, Some, None, if◌then◌else◌}
+use Rattle.std.specs.Prelude.{ℕ, pos, ◌==◌, List, [], ◌∷◌, length, Bool, true, false, not, ◌&&◌, Option, Some, None}
+use Rattle.std.specs.Prelude.{if◌then◌else◌}
 use Rattle.jt_value.specs.Tree as tree
 use Rattle.jt_value.specs.Tree.{Tree}
 use Rattle.jt_value.specs.Pairs.{Pairs}
@@ -11,9 +12,9 @@ use Rattle.jt_ast.specs.Expressions as trees
 use Rattle.jt_ast.specs.Expressions.{Expr, constant, name, group, list_of, map_of, attribute, item, call, filter, test}
 use Rattle.jt_ast.specs.Expressions.{unary, binary, when, choice, Exprs, no_exprs, expr, no_pairs, pair, Text}
 use Rattle.jt_semantics.specs.Operators.{unary_operation, OperatorForm, operation, negation, conjunction, disjunction}
-use Rattle.jt_semantics.specs.Operators.{form}
+use Rattle.jt_semantics.specs.Operators.{form, joins}
 use Rattle.jt_eval.specs.Tests.{test_named}
-use Rattle.jt_eval.specs.Values.{literal, as_value}
+use Rattle.jt_eval.specs.Values.{literal, as_value, required_if}
 use Rattle.jt_eval.specs.Eval.{Eval, gives, deeper, bind, checked}
 use Rattle.jt_ast.specs.Statements.{Parameter}
 use Rattle.jt_semantics.specs.Env.{Env, read, top}
@@ -28,6 +29,8 @@ use Rattle.jt_rules.specs.CompileEnv.{CompileEnv}
 use Rattle.jt_semantics.specs.EvalContext.{Placement, EvalContext, the_macro, the_block, Calls}
 use Rattle.jt_ids.specs.declared.op_id.OpId.{OpId}
 use Rattle.jt_ids.specs.declared.test_id.TestId.{TestId}
+use Rattle.jt_ids.specs.declared.filter_id.FilterId.TheVariants.{Default}
+use Rattle.jt_ids.specs.FilterTable.{filter_id}
 use Rattle.jt_op_semantics.specs.Operation as operators
 use Rattle.jt_op_semantics.specs.Operation.{as_truth}
 use Rattle.jt_op_semantics.specs.Testing.{tested}
@@ -109,6 +112,12 @@ seen_by (a_library n) globals = []
 abbrev pub valued_text : Bool → Eval Text → Eval Tree
 valued_text escaping g = bind g (λ s. gives (as_value escaping s))
 
+-- Whether the input of a filter must be defined: each filter of strict templates but `default`
+-- requires its input.
+abbrev pub requires_input : Bool → Option ℕ → Bool
+requires_input strict None = false
+requires_input strict (Some f) = strict && not (f == filter_id Default)
+
 module _ (cenv : CompileEnv) (calls : Calls) where
   -- The value of a call, by the values of its arguments. An expression that cannot be called has
   -- neither text nor fault at any depth: it breaks the rules.
@@ -144,7 +153,7 @@ module _ (cenv : CompileEnv) (calls : Calls) where
         (named_values pairs around env)
     value (filter e x positional pairs) around env =
         filtered cenv.filters (cenv.filters.named x positional pairs) around.escaping
-        (bind (value e around env)
+        (bind (required_if (requires_input cenv.strict (cenv.filters.named x positional pairs)) (value e around env))
         (λ v. bind (values positional around env) (λ vs. bind (named_values pairs around env) (λ ks.
         gives (v
         ∷ arguments (filter_parameters cenv.filters (cenv.filters.named x positional pairs)) vs (keywords pairs) ks)))))
@@ -152,7 +161,10 @@ module _ (cenv : CompileEnv) (calls : Calls) where
         turned n (asked (test_named x)
         (bind (value e around env) (λ v. bind (values positional around env) (λ vs. gives (v ∷ vs)))))
     value (unary o e) around env = bind (value e around env) (λ v. operated (unary_operation o) (v ∷ []))
-    value (binary o e f) around env = combined (form around.escaping o) (value e around env) (value f around env)
+    -- In strict templates `~` requires both operands.
+    value (binary o e f) around env =
+        combined (form around.escaping o) (required_if (cenv.strict && joins o) (value e around env))
+        (required_if (cenv.strict && joins o) (value f around env))
     value (when c e) around env = either (value c around env) (value e around env) (gives tree.undefined)
     value (choice c e f) around env = either (value c around env) (value e around env) (value f around env)
 

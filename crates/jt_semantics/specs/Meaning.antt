@@ -8,7 +8,7 @@ use Rattle.jt_value.specs.declared.fault.Fault.TheVariants as faults
 use Rattle.jt_ast.specs.Expressions.{Expr, Text}
 use Rattle.jt_value.specs.Place.{Place}
 use Rattle.jt_eval.specs.Eval.{Eval, gives, fails, deeper, bind, checked, at}
-use Rattle.jt_eval.specs.Values.{shown, as_value}
+use Rattle.jt_eval.specs.Values.{shown, as_value, required_if}
 use Rattle.jt_ast.specs.Statements.{FilterCall, Stmt, data_of, print, choose, for_each, set, set_block, with_values}
 use Rattle.jt_ast.specs.Statements.{filter_block, autoescape, macro, include, import_as, import_from, extends, block}
 use Rattle.jt_ast.specs.Statements.{Body, end, stmt, Branches, no_branches, branch}
@@ -19,7 +19,8 @@ use Rattle.jt_eval.specs.Filters.{arguments}
 use Rattle.jt_rules.specs.CompileEnv.{CompileEnv}
 use Rattle.jt_semantics.specs.EvalContext.{EvalContext, State, Invocation, the_macro, the_block, the_chain, Calls, tag}
 use Rattle.jt_chains.specs.Uses.{keywords}
-use Rattle.jt_semantics.specs.Expressions.{filtered, filter_parameters, block_text, value, values, named_values}
+use Rattle.jt_semantics.specs.Expressions.{filtered, filter_parameters, requires_input, block_text, value, values}
+use Rattle.jt_semantics.specs.Expressions.{named_values}
 
 -- ---- Targets
 
@@ -94,12 +95,13 @@ module _ (cenv : CompileEnv) (calls : Calls) where
       bind (value cenv calls c (outside around) (inside s env)) (λ b. bind (kept (Some c) xs around env vs) (λ rest.
       gives (if tree.truth b then v ∷ rest else rest))))
 
-  -- The value after each filter is applied in order.
+  -- The value after each filter is applied in order. Each filter of strict templates but `default`
+  -- requires its input.
   abbrev pub through : List FilterCall → EvalContext → Env → Eval Tree → Eval Tree
   through [] around env g = g
   through (f ∷ fs) around env g =
       through fs around env (filtered cenv.filters (cenv.filters.named f.name f.arguments f.keywords) around.escaping
-      (bind g (λ v.
+      (bind (required_if (requires_input cenv.strict (cenv.filters.named f.name f.arguments f.keywords)) g) (λ v.
       bind (values cenv calls f.arguments around env) (λ vs. bind (named_values cenv calls f.keywords around env) (λ ks.
       gives (v ∷ arguments (filter_parameters cenv.filters (cenv.filters.named f.name f.arguments f.keywords)) vs
       (keywords f.keywords) ks))))))
@@ -107,12 +109,13 @@ module _ (cenv : CompileEnv) (calls : Calls) where
   abbrev mutual
     pub meaning : Stmt → EvalContext → State → Eval State
     meaning (data_of s) around state = gives (put state s)
+    -- A print and a loop of strict templates require their values.
     meaning (print line e) around state =
-        at (tag around line) (bind (value cenv calls e around state.env)
+        at (tag around line) (bind (required_if cenv.strict (value cenv calls e around state.env))
         (λ v. bind (shown around.escaping v) (λ s. gives (put state s))))
     meaning (choose bs other) around state = chosen bs around state (meanings other around)
     meaning (for_each line xs e c body other) around state =
-        bind (at (tag around line) (bind (value cenv calls e around state.env)
+        bind (at (tag around line) (bind (required_if cenv.strict (value cenv calls e around state.env))
         (λ v. bind (checked (items_of_value v)) (kept c xs around state.env)))) (λ vs.
         eval_loop (λ l. meanings body (record around { loop = l })) (meanings other around) xs (tag around line) vs
         state)
@@ -128,7 +131,8 @@ module _ (cenv : CompileEnv) (calls : Calls) where
     meaning (filter_block line fs body) around state =
         bind (captured around.escaping (meanings body around) state.env) (λ v.
         at (tag around line)
-        (bind (through fs around state.env (gives v)) (λ w. bind (shown around.escaping w) (λ s. gives (put state s)))))
+        (bind (required_if cenv.strict (through fs around state.env (gives v)))
+        (λ w. bind (shown around.escaping w) (λ s. gives (put state s)))))
     meaning (autoescape line on body) around state =
         within [] (meanings body (record around { escaping = on })) state
     meaning (block line x scoped required body) around state =

@@ -28,6 +28,11 @@ abbrev pub join : Bool → OpId
 join true = op.JoinEscaping
 join false = op.Join
 
+-- True for `~`, the operator that joins the texts of its operands.
+abbrev pub joins : BinaryOperator → Bool
+joins o.Concatenate = true
+joins operator = false
+
 abbrev pub form : Bool → BinaryOperator → OperatorForm
 form escaping o.Or = disjunction
 form escaping o.And = conjunction

@@ -1,6 +1,6 @@
 -- The resolution of names to slots, and of macros, blocks and chains to routines.
-use Rattle.std.specs.Prelude.{ℕ, zero, suc, ◌+◌, length, pos, max, Bool, true, false, List, [], ◌∷◌, map, Option, Some}
-use Rattle.std.specs.Prelude.{None, if◌then◌else◌}
+use Rattle.std.specs.Prelude.{ℕ, zero, suc, ◌+◌, length, pos, max, Bool, true, false, ◌&&◌, List, [], ◌∷◌, map, Option}
+use Rattle.std.specs.Prelude.{Some, None, if◌then◌else◌}
 use Rattle.std.specs.Option.{is_none}
 use Rattle.std.specs.Str.{bytes_eq}
 use Rattle.jt_value.specs.Tree as tree
@@ -11,7 +11,7 @@ use Rattle.jt_ast.specs.Expressions.{Expr, constant, name, group, list_of, map_o
 use Rattle.jt_ast.specs.Expressions.{unary, binary, when, choice, Exprs, no_exprs, expr, Pairs, no_pairs, pair, Text}
 use Rattle.jt_value.specs.Place.{Place}
 use Rattle.jt_semantics.specs.Operators.{unary_operation, OperatorForm, operation, negation, conjunction, disjunction}
-use Rattle.jt_semantics.specs.Operators.{form, range_of}
+use Rattle.jt_semantics.specs.Operators.{form, joins, range_of}
 use Rattle.jt_eval.specs.Tests.{test_named}
 use Rattle.jt_eval.specs.Values.{literal}
 use Rattle.jt_chains.specs.Uses.{count, keywords, set_in}
@@ -26,14 +26,14 @@ use Rattle.jt_ids.specs.LoopTable.{field_named}
 use Rattle.jt_eval.specs.Filters.{default_value, some_given}
 use Rattle.jt_ast.specs.Texts.{among}
 use Rattle.jt_rules.specs.CompileEnv.{CompileEnv}
-use Rattle.jt_semantics.specs.Expressions.{filter_parameters}
+use Rattle.jt_semantics.specs.Expressions.{filter_parameters, requires_input}
 use Rattle.jt_semantics.specs.Meaning.{is_set}
 use Rattle.jt_semantics.specs.Layout.{Table, slot_in, of_chain, of_macro, of_body, names, numbered_of, first_slot}
 use Rattle.jt_semantics.specs.Layout.{globals, block_parameters, unit, default_index}
 use Rattle.jt_ir.specs.Slots as slots
 use Rattle.jt_ir.specs.Slots.{Slot, local, global, SlotExpr, pooled, variable, field, absent, made, invoke, operator}
 use Rattle.jt_ir.specs.Slots.{a_list, a_map, SRow, none, aside, Targets, one, several, SlotStmt, put_pooled, assign}
-use Rattle.jt_ir.specs.Slots.{if_else, capture, run, SBody, Routine}
+use Rattle.jt_ir.specs.Slots.{if_else, capture, run, SBody, Routine, required_if}
 use Rattle.jt_ir.specs.Locals.{body_locals}
 use Rattle.jt_ir.specs.Pool.{Constant, own, known}
 
@@ -261,14 +261,17 @@ module _ (cenv : CompileEnv) (order : List Namespace) where
         (resolved_asides pairs senv) (count positional) (locals_from senv.free (keywords pairs))
     resolved (filter a x positional pairs) senv =
         filtered_by (cenv.filters.named x positional pairs) senv.escaping
-        (slots.item (resolved a senv) (resolved_row positional senv (resolved_asides pairs senv
+        (slots.item (required_if (requires_input cenv.strict (cenv.filters.named x positional pairs)) (resolved a senv))
+        (resolved_row positional senv (resolved_asides pairs senv
         (filled_some (filter_parameters cenv.filters (cenv.filters.named x positional pairs)) (count positional)
         (keywords pairs) (locals_from senv.free (keywords pairs))))))
     resolved (test a n x positional pairs) senv =
         turned_round n
         (tested_by (test_named x) (slots.item (resolved a senv) (resolved_row positional senv none)))
     resolved (unary o a) senv = made (operator (unary_operation o)) (slots.item (resolved a senv) none)
-    resolved (binary o a b) senv = in_form (form senv.escaping o) (resolved a senv) (resolved b senv)
+    resolved (binary o a b) senv =
+        in_form (form senv.escaping o) (required_if (cenv.strict && joins o) (resolved a senv))
+        (required_if (cenv.strict && joins o) (resolved b senv))
     resolved (when c a) senv = slots.choice (resolved c senv) (resolved a senv) no_value
     resolved (choice c a b) senv = slots.choice (resolved c senv) (resolved a senv) (resolved b senv)
 
@@ -297,7 +300,8 @@ module _ (cenv : CompileEnv) (order : List Namespace) where
   resolved_filters [] senv e = e
   resolved_filters (f ∷ fs) senv e =
       resolved_filters fs senv (filtered_by (cenv.filters.named f.name f.arguments f.keywords) senv.escaping
-      (slots.item e (resolved_row f.arguments senv (resolved_asides f.keywords senv
+      (slots.item (required_if (requires_input cenv.strict (cenv.filters.named f.name f.arguments f.keywords)) e)
+      (resolved_row f.arguments senv (resolved_asides f.keywords senv
       (filled_some (filter_parameters cenv.filters (cenv.filters.named f.name f.arguments f.keywords))
       (count f.arguments) (keywords f.keywords) (locals_from senv.free (keywords f.keywords)))))))
 
@@ -322,10 +326,10 @@ module _ (cenv : CompileEnv) (order : List Namespace) where
     pub resolved_stmt : Stmt → StaticEnv → SBody Constant
     resolved_stmt (data_of t) senv = alone (put_pooled (own (tree.text t)))
     resolved_stmt (print line e) senv =
-        alone (slots.print (place senv line) senv.escaping (resolved e senv))
+        alone (slots.print (place senv line) senv.escaping (required_if cenv.strict (resolved e senv)))
     resolved_stmt (choose bs other) senv = resolved_choice bs senv (resolved_body other senv)
     resolved_stmt (for_each line xs e c body other) senv =
-        alone (slots.for_each (place senv line) (fresh_targets senv.free xs) (resolved e senv)
+        alone (slots.for_each (place senv line) (fresh_targets senv.free xs) (required_if cenv.strict (resolved e senv))
         (resolved_condition c (bound_all xs senv))
         (scoped (set_in body) (bound_all xs senv) (resolved_body body)) (resolved_body other senv))
     resolved_stmt (set line xs e) senv =
@@ -340,7 +344,7 @@ module _ (cenv : CompileEnv) (order : List Namespace) where
         slots.stmt (capture senv.escaping (local senv.free)
         (scoped (set_in body) (grown senv) (resolved_body body)))
         (alone (slots.print (place senv line) senv.escaping
-        (resolved_filters fs (grown senv) (variable (local senv.free)))))
+        (required_if cenv.strict (resolved_filters fs (grown senv) (variable (local senv.free))))))
     resolved_stmt (autoescape line on body) senv =
         scoped (set_in body) (record senv { escaping = on }) (resolved_body body)
     resolved_stmt (macro line x parameters body) senv = slots.end

@@ -60,6 +60,7 @@ pub(crate) fn options_of(row: &str) -> Options {
                 lstrip_blocks: part.contains("--lstrip-blocks"),
                 keep_trailing_newline: part.contains("--keep-trailing-newline"),
                 autoescape: !part.contains("--no-autoescape"),
+                strict: part.contains("--strict"),
             };
         }
     }

@@ -1,20 +1,23 @@
 """Contexts that are read once, and kept for each thread that uses them.
 
 The library wants a kept context to stay on the thread that filled it, also when it is freed. So a
-`Context` is its JSON, and each thread that uses it keeps a handle of its own: see `_Thread`.
+`Context` is its JSON, and each thread that uses it keeps a handle of its own: see `Thread`.
 """
 import itertools
 import json
 import threading
 from collections import deque
-from typing import Any, Deque, Dict, List, Mapping, Tuple, Type, Union
+from typing import Any, Callable, Deque, Dict, List, Mapping, Tuple, Type, TypeVar, Union
 
+from . import _forks
 from ._closing import Closing
 from ._errors import Refused
 from ._json import Default, encode_json, explain, to_json
-from ._library import NO_LIMIT, ContextHandle, ImageHandle, Numbers, library, run, tell
+from ._library import NO_LIMIT, ContextHandle, ImageHandle, Numbers, RunHandle, library, tell
 
-_numbers = itertools.count()
+_Result = TypeVar("_Result")
+# The numbers of contexts and of runs in slices.
+numbers = itertools.count()
 
 
 class Context(Closing):
@@ -38,44 +41,47 @@ class Context(Closing):
     def __init__(
         self, given: Union[Mapping[str, Any], str, bytes, None] = None, *, default: Default = None
     ) -> None:
-        # (A finalizer or a signal handler may render in the middle of a call.)
-        self._lock = threading.RLock()
         self._closed = False
-        self._number = next(_numbers)
+        self._number = next(numbers)
         # (No weak references: of a context in a cycle the collector clears them before `__del__`.)
-        self._threads: List[_Thread] = []
+        self._threads: List[Thread] = []
         self._json = _encode(given, default)
         self._handle()
 
     def _handle(self) -> ContextHandle:
         """Returns the handle of this thread. It reads the JSON if the thread has none yet."""
-        thread = _this_thread()
+        thread = this_thread()
         thread.free_dropped()
-        with self._lock:
+        self._check_open()
+        if self._number not in thread.contexts:
+            handle = ContextHandle()
+            try:
+                _keep(self._json, handle)
+                self._take_part(thread, handle)
+            finally:
+                # (A finalizer that ran meanwhile may have read it too.)
+                if thread.contexts.get(self._number) is not handle:
+                    library.jt_context_free(handle)
+        return thread.contexts[self._number]
+
+    def _take_part(self, thread: "Thread", handle: ContextHandle) -> None:
+        """Gives a thread its handle, unless it has one."""
+        with _forks.section:
             self._check_open()
-            if self._number not in thread.handles:
-                handle = ContextHandle()
-                try:
-                    _keep(self._json, handle)
-                    self._threads = [it for it in self._threads if self._number in it.handles]
-                    self._threads.append(thread)
-                    if thread.handles.setdefault(self._number, handle) is not handle:
-                        library.jt_context_free(handle)
-                except BaseException:
-                    if thread.handles.get(self._number) is not handle:
-                        library.jt_context_free(handle)
-                    raise
-            return thread.handles[self._number]
+            if self._number not in thread.contexts:
+                self._threads = [it for it in self._threads if self._number in it.contexts]
+                self._threads.append(thread)
+                thread.contexts[self._number] = handle
 
     def close(self) -> None:
         """Frees the handles: of this thread now, of another at its next call or its end."""
-        with self._lock:
+        with _forks.section:
             self._closed = True
             threads, self._threads = self._threads, []
         for thread in threads:
             thread.dropped.append(self._number)
         if threads:
-            _this_thread().free_dropped()
+            this_thread().free_dropped()
 
     def __del__(self) -> None:
         if getattr(self, "_threads", None):
@@ -118,28 +124,46 @@ def with_names(context: ContextLike, names: Mapping[str, Any]) -> ContextLike:
     return {**({} if context is None else context), **names}
 
 
-def run_within(
-    memory: int, context: ContextLike, image: ImageHandle, budget: Numbers
-) -> str:
-    """Runs an image as `run_for` does, and lets the library hold `memory` bytes for it."""
+# What uses an image and a context under a budget: it runs the image, or starts a run.
+Use = Callable[[ImageHandle, ContextHandle, Numbers], _Result]
+
+
+def use_within(
+    memory: int, context: ContextLike, image: ImageHandle, budget: Numbers, use: Use[_Result]
+) -> _Result:
+    """Does what `use_for` does, and lets the library hold `memory` bytes for it."""
     before = NO_LIMIT
     try:
         before = library.jt_memory_limit(memory)
-        return run_for(context, image, budget)
+        return use_for(context, image, budget, use)
     finally:
         library.jt_memory_limit(before)
 
 
-def run_for(context: ContextLike, image: ImageHandle, budget: Numbers) -> str:
-    """Runs an image once for a context. What is no `Context` is read before, and freed after."""
+def use_for(
+    context: ContextLike, image: ImageHandle, budget: Numbers, use: Use[_Result]
+) -> _Result:
+    """Uses an image for a context. What is no `Context` is read before, and freed after."""
     if isinstance(context, Context):
-        return run(image, context._handle(), budget)
+        return use(image, context._handle(), budget)
     handle = ContextHandle()
     try:
         _keep(_encode(context), handle)
-        return run(image, handle, budget)
+        return use(image, handle, budget)
     finally:
         library.jt_context_free(handle)
+
+
+def json_of(context: ContextLike) -> bytes:
+    """Returns the JSON of a context, which the library may refuse.
+
+    # Errors
+    `ContextError` for what cannot be JSON, `ValueError` for a `Context` that is closed.
+    """
+    if isinstance(context, Context):
+        context._check_open()
+        return context._json
+    return _encode(context)
 
 
 def _encode(
@@ -164,49 +188,51 @@ def _keep(data: bytes, handle: ContextHandle) -> None:
     raise explain(data, refused)
 
 
-class _Thread:
-    """The handles of one thread, by the numbers of their contexts. Only this thread frees them.
+class Thread:
+    """The handles of one thread, by the numbers of contexts and runs. Only this thread frees them.
 
-    A context that is closed elsewhere puts its number into `dropped`, from any thread. This thread
-    frees the handle at its next call, or at its end.
+    What is closed elsewhere puts its number into `dropped`, from any thread. This thread frees the
+    handle at its next call, or at its end.
     """
 
     def __init__(self) -> None:
         self.ident = threading.get_ident()
-        self.handles: Dict[int, ContextHandle] = {}
+        self.contexts: Dict[int, ContextHandle] = {}
+        self.runs: Dict[int, RunHandle] = {}
         self.dropped: Deque[int] = deque()
 
     def free_dropped(self) -> None:
         """Frees what other threads dropped."""
         while self.dropped:
             try:
-                handle = self.handles.pop(self.dropped.popleft(), None)
+                number = self.dropped.popleft()
             except IndexError:  # (a finalizer that ran meanwhile has freed it)
                 return
+            handle = self.contexts.pop(number, None) or self.runs.pop(number, None)
             if handle is not None:
-                library.jt_context_free(handle)
+                handle.free()
 
 
 class _End:
     """Frees the handles of a thread at its end, when its part of `_here` is dropped."""
 
-    def __init__(self, thread: _Thread) -> None:
+    def __init__(self, thread: Thread) -> None:
         self.thread = thread
 
     def __del__(self) -> None:
         # (The end of the process drops what threads left that still run: that is left to it.)
         if threading.get_ident() == self.thread.ident:
-            self.thread.dropped.extend(list(self.thread.handles))
+            self.thread.dropped.extend([*self.thread.contexts, *self.thread.runs])
             self.thread.free_dropped()
 
 
 _here = threading.local()
 
 
-def _this_thread() -> _Thread:
+def this_thread() -> Thread:
     """Returns the handles of this thread."""
     try:
         end: _End = _here.end
     except AttributeError:
-        end = _here.end = _End(_Thread())
+        end = _here.end = _End(Thread())
     return end.thread

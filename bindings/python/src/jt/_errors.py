@@ -2,7 +2,9 @@
 
 The arguments of each exception are those of its constructor, so all of them can be pickled.
 """
+import builtins
 import re
+from dataclasses import dataclass
 from typing import Optional
 
 FAULTS = {
@@ -25,6 +27,21 @@ _HEADING = re.compile(
     r'(?: "(?P<subject>.*)")?',
     re.S,
 )
+
+
+@dataclass(frozen=True)
+class Used:
+    """What a run has used of its budget, by the fields of `Budget`.
+
+    For a run that ended with a text, these are the least numbers with which it ends so.
+    """
+
+    fuel: int
+    output: int
+    depth: int
+
+    def __str__(self) -> str:
+        return f"fuel {self.fuel} depth {self.depth} output {self.output}"
 
 
 class JtError(Exception):
@@ -70,8 +87,9 @@ class Refused(JtError):
 
     `reason` is the line of the program, as `P1 Syntax in page line 2`, and begins with `code` and
     `name`. `template`, `line` and `subject`, the name that the refusal is about, are `None` where
-    they are not known. `entry` is the template that was compiled, if one was, and `explanation`
-    is what `jt explain` prints of it: `str(error)` is that, or the reason if there is none.
+    they are not known. The line is that of the name, or else of its tag; the reason has that of the
+    tag. `entry` is the template that was compiled, if one was, and `explanation` is what `jt explain`
+    prints of it: `str(error)` is that, or the reason if there is none.
     """
 
     reason: str
@@ -119,6 +137,32 @@ class ContextError(Refused):
 
     def __str__(self) -> str:
         return f"{self.path}: {self.what}"
+
+
+class TimeoutError(JtError, builtins.TimeoutError):
+    """A run that was stopped at its deadline: `used` is what it had used until then."""
+
+    used: Used
+
+    def __init__(self, used: Used) -> None:
+        super().__init__(used)
+        self.used = used
+
+    def __str__(self) -> str:
+        return f"timed out after {self.used}"
+
+
+class Cancelled(JtError):
+    """A run that was stopped by `cancel`: `used` is what it had used until then."""
+
+    used: Used
+
+    def __init__(self, used: Used) -> None:
+        super().__init__(used)
+        self.used = used
+
+    def __str__(self) -> str:
+        return f"cancelled after {self.used}"
 
 
 class NoMemory(JtError, MemoryError):

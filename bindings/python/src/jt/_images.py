@@ -1,13 +1,17 @@
 """Images, which are verified once and run often, and the budgets of their runs."""
 import os
 import threading
-from dataclasses import dataclass, fields
-from typing import Any, List, Optional, Tuple, Type, Union
+from dataclasses import dataclass, fields, replace
+from typing import Any, Generator, Iterable, List, Mapping, Optional, Tuple, Type, TypeVar, Union
 
+from . import _each, _forks
 from ._closing import Closing
-from ._contexts import ContextLike, run_for, run_within, with_names
-from ._errors import NoMemory
-from ._library import FlagBytes, ImageHandle, LibraryHandle, Numbers, library, tell
+from ._contexts import ContextLike, Use, use_for, use_within, with_names
+from ._errors import Fault, JtError, NoMemory, Spent
+from ._library import NO_LIMIT, FlagBytes, ImageHandle, LibraryHandle, Numbers, library, run, tell
+from ._runs import FIRST_STEPS, MANY_STEPS, Flag, Pace, Report, Run, Watch
+
+_Result = TypeVar("_Result")
 
 _BITS = {"fuel": 64, "output": 64, "depth": 32, "size": 32, "nesting": 8, "memory": 63}
 
@@ -67,12 +71,12 @@ class Image(Closing):
     def _start(self, data: Optional[bytes]) -> None:
         # (The bytes of a compiled image are written when they are first asked for.)
         self._data = data
-        # (A finalizer or a signal handler may render in the middle of a call.)
-        self._lock = threading.RLock()
         self._closed = False
-        # This handle is only shared from and saved. Each run takes one that is idle, or a new one.
+        # This handle is only shared from. Each call takes one that is idle, or a new one.
         self._first = ImageHandle()
         self._idle: List[ImageHandle] = []
+        self._pace = Pace()
+        self._no_watch = Watch(self._pace)
 
     @property
     def data(self) -> bytes:
@@ -81,36 +85,165 @@ class Image(Closing):
         # Errors
         `NoMemory`; `ValueError` if the image was closed before its bytes were asked for.
         """
-        with self._lock:
-            if self._data is None:
-                self._check_open()
-                self._data = tell(library.jt_image_save, self._first)
-            return self._data
+        if self._data is None:
+            handle = self._take()
+            try:
+                data = tell(library.jt_image_save, handle)
+            finally:
+                self._put_back(handle)
+            with _forks.section:
+                self._data = data if self._data is None else self._data
+        return self._data
 
     def run(
-        self, /, context: ContextLike = None, budget: Budget = Budget(), **names: Any
+        self,
+        /,
+        context: ContextLike = None,
+        budget: Budget = Budget(),
+        *,
+        timeout: Optional[float] = None,
+        cancel: Optional[Flag] = None,
+        **names: Any,
     ) -> str:
         """Runs the template once and returns its text.
 
         Values may be given by keywords too: `image.run(name="World")`. They replace those of a
-        mapping. A value that the template calls `context` or `budget` has to be in a mapping.
+        mapping. A value that the template calls `context`, `budget`, `timeout` or `cancel` has to
+        be in a mapping.
+
+        The run is stopped after `timeout` seconds, and once the event `cancel` is set. A signal of
+        the main thread, as Ctrl-C, is handled while the run goes on. All of it waits for the
+        instruction that is executed, and for a slice of some milliseconds.
 
         # Errors
         `Fault`, `Spent`, `ContextError` for the context, `NoMemory`, also for the `memory` of the
-        budget; `ValueError` if the image or the context is closed; `TypeError` for keywords beside
-        a context that is no mapping.
+        budget; `TimeoutError`, `Cancelled`; `ValueError` if the image or the context is closed;
+        `TypeError` for keywords beside a context that is no mapping.
+        """
+        if timeout is not None or cancel is not None:
+            use = Watch(self._pace, timeout, cancel).run
+        elif threading.get_ident() == _forks.main:
+            # (Between slices Python handles signals.)
+            use = self._no_watch.run
+        else:
+            use = run
+        return self._use(context, budget, names, use)
+
+    async def arun(
+        self,
+        /,
+        context: ContextLike = None,
+        budget: Budget = Budget(),
+        *,
+        timeout: Optional[float] = None,
+        cancel: Optional[Flag] = None,
+        **names: Any,
+    ) -> str:
+        """Runs the template once and returns its text, as `run`, in a loop of asyncio.
+
+        The other tasks of the loop have their turns every millisecond or some. A task that is
+        cancelled stops the run.
+
+        # Errors
+        Those of `run`, and what cancels the task.
+        """
+        import asyncio
+
+        watch = Watch(self._pace, timeout, cancel)
+        with self.start(context, budget, **names) as slices:
+            for _ in slices._slices(watch):
+                await asyncio.sleep(0)
+            return slices.outcome()
+
+    def start(
+        self, /, context: ContextLike = None, budget: Budget = Budget(), **names: Any
+    ) -> Run:
+        """Returns a run in slices, before its first instruction. It is the caller's to close.
+
+        The image and the context may be closed while it goes on.
+
+        # Errors
+        `ContextError` for the context, `NoMemory`; `ValueError` if the image or the context is
+        closed; `TypeError` for keywords beside a context that is no mapping.
+        """
+        if not isinstance(budget, Budget) or budget.memory is None:
+            return self._use(context, budget, names, Run)
+        before = NO_LIMIT
+        try:
+            before = library.jt_memory_limit(budget.memory)
+            started = self._use(context, replace(budget, memory=None), names, Run)
+        finally:
+            left = library.jt_memory_limit(before)
+        started._left = left
+        return started
+
+    def run_report(
+        self,
+        /,
+        context: ContextLike = None,
+        budget: Budget = Budget(),
+        *,
+        timeout: Optional[float] = None,
+        cancel: Optional[Flag] = None,
+        **names: Any,
+    ) -> Report:
+        """Runs the template once, and returns how the run ended and what it used of its budget.
+
+        # Errors
+        Those of `run`, but for `Fault`, `Spent` and `NoMemory` of the run: they are in the report.
+        """
+        watch = Watch(self._pace, timeout, cancel)
+        steps = MANY_STEPS if timeout is None and cancel is None else FIRST_STEPS
+        with self.start(context, budget, **names) as slices:
+            try:
+                for _ in slices._slices(watch, steps):
+                    pass
+                outcome: Union[str, JtError] = slices.outcome()
+            except (Fault, Spent, NoMemory) as error:
+                # (A traceback would keep all that its frames hold.)
+                outcome = error.with_traceback(None)
+            return Report(outcome, slices.used)
+
+    def run_each(
+        self,
+        contexts: Iterable[ContextLike],
+        budget: Budget = Budget(),
+        *,
+        workers: Optional[int] = None,
+        ordered: bool = True,
+        processes: bool = False,
+    ) -> Generator[_each.Result, None, None]:
+        """Runs the template for each context, and yields a `Result` for each of them.
+
+        `workers` threads, or processes, run at the same time, by default one for each processor.
+        With one worker, a context is read after the result before it, in this thread. With more,
+        some hundreds of contexts are read ahead, and no more than that. The results are in the
+        order of the contexts unless `ordered` is false.
+
+        Processes are started by `spawn`, so a script needs `if __name__ == "__main__":`. Each of
+        them verifies the image once. `close` of the iterator stops the workers, as its end and its
+        last reference do. A forked child cannot go on with the iterator of its parent.
+
+        # Errors
+        None for a context and for a run: these are in the results. What the iterator of the
+        contexts raises comes after the results before it. `ValueError` if the image or a `Context`
+        is closed; `concurrent.futures.BrokenExecutor` if a process dies.
         """
         if not isinstance(budget, Budget):
             raise TypeError(f"the budget is no Budget: {budget!r}")
-        context = with_names(context, names)
-        numbers = Numbers(budget.fuel, budget.output, budget.depth, budget.size, budget.nesting)
-        handle = self._take()
-        try:
-            if budget.memory is None:
-                return run_for(context, handle, numbers)
-            return run_within(budget.memory, context, handle, numbers)
-        finally:
-            self._put_back(handle)
+        count = _each.usual_workers() if workers is None else workers
+        if isinstance(count, bool) or not isinstance(count, int):
+            raise TypeError(f"workers is no int: {count!r}")
+        if count < 1:
+            raise ValueError(f"workers has to be at least 1: {count}")
+        self._check_open()
+        source = _each.Source(contexts)
+        if count == 1 and not processes:
+            return _each.in_turn(self, source, budget)
+        from . import _pools
+
+        pool = _pools.in_processes if processes else _pools.in_threads
+        return pool(self, source, budget, count, ordered)
 
     def share(self) -> "Image":
         """Returns another `Image` over the same verified image, without a copy.
@@ -119,7 +252,7 @@ class Image(Closing):
         """
         other = type(self).__new__(type(self))
         other._start(self._data)
-        with self._lock:
+        with _forks.section:
             self._share_to(other._first)
         return other
 
@@ -149,11 +282,11 @@ class Image(Closing):
 
     def close(self) -> None:
         """Frees the image. A run of another thread that has begun ends as it would."""
-        with self._lock:
+        with _forks.section:
             self._closed = True
             handles, self._idle = [self._first, *self._idle], []
-            for handle in handles:
-                handle.free()
+        for handle in handles:
+            handle.free()
 
     def __reduce__(self) -> Tuple[Type["Image"], Tuple[bytes]]:
         return type(self), (self.data,)
@@ -162,15 +295,35 @@ class Image(Closing):
         of = "" if self._data is None else f" of {len(self._data)} bytes"
         return f"<jt.Image{of}{', closed' if self._closed else ''}>"
 
+    def _use(
+        self,
+        context: ContextLike,
+        budget: Budget,
+        names: Mapping[str, Any],
+        use: Use[_Result],
+    ) -> _Result:
+        """Uses a handle of the image for a context, within the memory of the budget."""
+        if not isinstance(budget, Budget):
+            raise TypeError(f"the budget is no Budget: {budget!r}")
+        context = with_names(context, names)
+        numbers = Numbers(budget.fuel, budget.output, budget.depth, budget.size, budget.nesting)
+        handle = self._take()
+        try:
+            if budget.memory is None:
+                return use_for(context, handle, numbers, use)
+            return use_within(budget.memory, context, handle, numbers, use)
+        finally:
+            self._put_back(handle)
+
     def _share_to(self, other: ImageHandle) -> None:
-        """Fills another handle. The caller has the lock."""
+        """Fills another handle. The caller is in a section."""
         self._check_open()
         if library.jt_image_share(self._first, other) != 0:
             raise NoMemory()
 
     def _take(self) -> ImageHandle:
         """Returns a handle that no other run uses."""
-        with self._lock:
+        with _forks.section:
             self._check_open()
             try:
                 return self._idle.pop()
@@ -181,8 +334,8 @@ class Image(Closing):
 
     def _put_back(self, handle: ImageHandle) -> None:
         """Keeps a handle for the next run, or frees it if the image was closed meanwhile."""
-        with self._lock:
-            if self._closed:
-                handle.free()
-            else:
+        with _forks.section:
+            if not self._closed:
                 self._idle.append(handle)
+                return
+        handle.free()

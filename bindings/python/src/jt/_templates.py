@@ -1,15 +1,15 @@
 """Templates: from sources to images."""
 import codecs
 import os
-import threading
 from dataclasses import dataclass, fields, replace
 from types import MappingProxyType
 from typing import Any, Dict, Iterator, List, Mapping, Optional, Tuple, Union
 
+from . import _forks
 from ._contexts import ContextLike
 from ._errors import NoMemory, Refused
 from ._images import Budget, Image
-from ._library import FlagBytes, Lengths, LibraryHandle, explain, library, tell
+from ._library import FlagBytes, Lengths, LibraryHandle, explain, library, needs, tell
 
 # The name of a template of a text alone.
 _NAMELESS = "<template>"
@@ -19,18 +19,40 @@ _MOST_BYTES = 1_048_576
 
 @dataclass(frozen=True)
 class Options:
-    """How templates are read; the defaults are those of the program `jt`."""
+    """How templates are read; the defaults are those of the program `jt`.
+
+    With `strict` an undefined value is a fault where it is printed, iterated over, joined by `~`, or
+    the input of a filter other than `default`.
+    """
 
     trim_blocks: bool = False
     lstrip_blocks: bool = False
     keep_trailing_newline: bool = False
     autoescape: bool = True
+    strict: bool = False
 
     def __post_init__(self) -> None:
         for field in fields(self):
             value = getattr(self, field.name)
             if not isinstance(value, bool):
                 raise TypeError(f"{field.name} is no bool: {value!r}")
+
+
+@dataclass(frozen=True)
+class Needs:
+    """What the image of a template depends on, each in ascending order.
+
+    `names` are the names of a context that it reads, those that its templates set too. `templates`
+    are those that it is made of: itself, and all that it extends, includes and imports, also
+    through others. `missing` are those that an `include` names and that do not exist.
+
+    While the sources of `templates` stay the same and those of `missing` do not exist, the image
+    stays the same. While the values of `names` stay the same too, so does its text.
+    """
+
+    names: Tuple[str, ...]
+    templates: Tuple[str, ...]
+    missing: Tuple[str, ...]
 
 
 class Templates:
@@ -52,8 +74,6 @@ class Templates:
             raise TypeError(f"the options are no Options: {options!r}")
         self._sources = dict(sources)
         self._options = replace(options, **chosen)
-        # (A finalizer or a signal handler may compile in the middle of a call.)
-        self._lock = threading.RLock()
         # This handle is only shared from: each compilation has one of its own.
         self._first = LibraryHandle()
         _load(self._sources, self._first)
@@ -89,10 +109,18 @@ class Templates:
             # (A name that has no UTF-8 is missing too.)
             explanation = self._explanation(str(name).encode(errors="replace"))
             raise Refused("C1 Missing", name, explanation)
-        with self._lock:
+        with _forks.section:
             if name not in self._templates:
                 self._templates[name] = Template._of(name, self)
             return self._templates[name]
+
+    def needs(self, name: str) -> Needs:
+        """Returns what the template of a name depends on.
+
+        # Errors
+        Those of `template` and of `Template.needs`.
+        """
+        return self.template(name).needs()
 
     def __getitem__(self, name: str) -> "Template":
         """Returns the template of a name, or raises `KeyError` if there is none."""
@@ -112,7 +140,7 @@ class Templates:
     def _shared(self) -> LibraryHandle:
         """Returns a second handle of the sources."""
         handle = LibraryHandle()
-        with self._lock:
+        with _forks.section:
             if library.jt_library_share(self._first, handle) != 0:
                 raise NoMemory()
         return handle
@@ -124,6 +152,11 @@ class Templates:
     def _image(self, entry: bytes) -> Image:
         """Compiles a template."""
         return Image._compiled(self._shared(), entry, self._flags())
+
+    def _needs(self, entry: bytes) -> Needs:
+        """Returns what a template depends on."""
+        found = needs(self._shared(), entry, self._flags())
+        return Needs(tuple(found["name"]), tuple(found["template"]), tuple(found["missing"]))
 
     def _explanation(self, entry: bytes) -> Optional[str]:
         """Returns why a template was refused, in words. It is compiled again for that."""
@@ -166,7 +199,7 @@ class Template:
         self._entry = _encoded(entry, "the name of the template")
         self._name = entry
         self._templates = templates
-        self._lock = threading.RLock()
+        self._lock = _forks.LongLock()
         self._image: Optional[Image] = None
 
     @property
@@ -182,12 +215,25 @@ class Template:
         """
         return self._compiled().share()
 
+    def needs(self) -> Needs:
+        """Returns what the image of the template depends on. It is compiled again for that.
+
+        # Errors
+        `Refused` for the sources, `NoMemory`.
+        """
+        try:
+            return self._templates._needs(self._entry)
+        except Refused as error:
+            reason = error.reason
+        raise self._refused(reason)
+
     def render(
         self, /, context: ContextLike = None, budget: Budget = Budget(), **names: Any
     ) -> str:
         """Runs the template once and returns its text.
 
-        Values may be given by keywords too, as for `Image.run`: `page.render(name="World")`.
+        Values may be given by keywords too, as for `Image.run`: `page.render(name="World")`. For a
+        deadline, `compile` the template and `run` its image.
 
         # Errors
         Those of `compile` and of `Image.run`.
@@ -196,7 +242,9 @@ class Template:
 
     def _compiled(self) -> Image:
         """Returns the image that is kept."""
-        with self._lock:
+        if self._image is not None:
+            return self._image
+        with self._lock.here():
             if self._image is not None:
                 return self._image
             try:
@@ -204,7 +252,11 @@ class Template:
                 return self._image
             except Refused as error:
                 reason = error.reason
-        raise Refused(reason, self._name, self._templates._explanation(self._entry))
+        raise self._refused(reason)
+
+    def _refused(self, reason: str) -> Refused:
+        """Returns the refusal of the template with its explanation."""
+        return Refused(reason, self._name, self._templates._explanation(self._entry))
 
     def __repr__(self) -> str:
         return f"<jt.Template {self._name!r}>"

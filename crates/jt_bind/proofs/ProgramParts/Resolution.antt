@@ -23,7 +23,10 @@ use Rattle.jt_ast.specs.declared.expression.Polarity.{Polarity}
 use Rattle.jt_ast.specs.declared.expression.Expr.TheViews.{the_lemmas}
 use Rattle.jt_semantics.specs.Layout.{chain_keys, index_of, names_in, of_chain}
 use Rattle.jt_semantics.specs.Resolve as resolve
-use resolve.{resolved_body, handed_on, left_out, place, resolved_values, copied}
+use resolve.{resolved_body, handed_on, in_form, left_out, operation_of, place, resolved_values, copied}
+use Rattle.jt_semantics.specs.Operators as operators
+use Rattle.jt_ast.specs.declared.expression.BinaryOperator.{BinaryOperator}
+use Rattle.std.specs.Prelude.{◌&&◌}
 use Rattle.jt_layout.proofs.LayoutCorrect.{others}
 use Rattle.std.proofs.lemmas.Bool.Decides.{nat_tests}
 
@@ -210,6 +213,22 @@ filters_next r fs i f e lt is =
     rw (take_more fs i f lt, ← is, map-append)
     (sym (filter_push r (filter_calls_view (take i fs)) (filter_call_view f) e))
 
+-- An operator that requires its operands joins their texts.
+pub joined_form : (strict escaping : Bool) (o : BinaryOperator) (a b : Term) → strict && operators.joins o ≡ true
+    → operation_of (operators.join escaping) (slots.required_if true a) (slots.required_if true b)
+    ≡ in_form (operators.form escaping o) (slots.required_if (strict && operators.joins o) a)
+    (slots.required_if (strict && operators.joins o) b)
+joined_form strict escaping o a b e = search (arith, rules)
+
+-- A value that may be required.
+pub required_placed : (b : Bool) (c : Term) (x : slots.SlotExpr ℕ) (p q : List Tree) → IsPlaced c x p q
+    → IsPlaced (slots.required_if b c) (slots.required_if b x) p q
+required_placed false c x p q h = h
+required_placed true c x p q h = record {
+  shown = ap (λ y. slots.made slots.required (slots.item y slots.none)) h.shown;
+  pooled = rw append-nil h.pooled;
+}
+
 -- One more filter of a resolved value.
 pub filter_placed : (k : NaryOp) (c : Term) (es : Row) (x : slots.SlotExpr ℕ) (row : List Entry)
     (p q r : List Tree)
@@ -289,7 +308,8 @@ pub filter_shown : (r : Resolver) (line : ℕ) (fs : List trees.FilterCall) (b :
     → n ≡ r.senv.free + 1
     → followed (alone (slots.capture r.senv.escaping (local r.senv.free) (scoped_of r b (senv_of (freed r n)))))
     (alone (slots.print (line_of r line) r.senv.escaping
-    (filters_of (freed r n) fs (slots.variable (local r.senv.free)))))
+    (slots.required_if (cenv_in r.tables.now).strict
+    (filters_of (freed r n) fs (slots.variable (local r.senv.free))))))
     ≡ stmt_of r (trees.filter_block line fs b)
 filter_shown r line fs b n e = search (arith, rules, add-one)
 

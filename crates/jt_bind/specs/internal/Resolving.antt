@@ -5,6 +5,7 @@ pub use Scoped.*
 use Rattle.jt_ir.specs.Pool.{placed_routine, placed_routines, routines_values}
 use Rattle.jt_bind.specs.declared.emission.LoopHead.{LoopHead}
 use Rattle.jt_ir.specs.declared.program.Place as code
+use Rattle.jt_ir.specs.declared.program.Filtered.{Filtered}
 use Rattle.jt_semantics.specs.Expressions.{filter_parameters}
 
 -- ---- the values at the end of a pool that grows from one list of values to another
@@ -15,6 +16,10 @@ abbrev pub Emits : List Text → Stmts → List SlotStmt → List SlotStmt → L
     → List Tree → Type 0
 Emits templates whole before after old new =
     (left : Stmts) → BodyLeads templates (followed whole left) left before after old new
+
+-- A value after the filters of its tag, before it is required.
+abbrev pub filters_view : Filtered → slots.SlotExpr ℕ
+filters_view v = filters_after v.filters.items (expr_view v.value)
 
 -- A condition, if there is one.
 pub record IsAsked (k : Option Term) (condition : Option SlotExpr) (old new : List Tree) : Type
@@ -131,6 +136,10 @@ module _ (r : Resolver) where
 
   abbrev pub expr_of : expressions.Expr → Term
   expr_of t = resolve.resolved cenv order t senv_of
+
+  -- The value of a print or a loop, which strict templates require.
+  abbrev pub required_of : expressions.Expr → Term
+  required_of t = slots.required_if cenv.strict (expr_of t)
 
   -- The resolved expression, with the values that it appends to a pool.
   abbrev pub IsResolved : expressions.Expr → SlotExpr → Pool → Pool → Type 0

@@ -21,6 +21,7 @@ usual =
       lstrip_blocks = false;
       keep_trailing_newline = false;
       autoescape = true;
+      strict = false;
     }
 
 -- A run of the code for the context that the text spells ends with this outcome.

@@ -9,8 +9,8 @@ use Rattle.jt_ir.specs.Slots.{none}
 use Rattle.jt_ir.specs.Size.{row_count}
 use Rattle.jt_ir.specs.View.{slot_view, nary_op_view, expr_view, row_view}
 use Rattle.jt_lower.specs.Asm.{Asm, one, both, choose, invoke}
-use Rattle.jt_lower.specs.Lower.{nary_op, flag, load_of, expr_asm, row_asm}
-use Rattle.jt_lower.specs.Emission.{Given, tag_view, side_asm, instead_asm, Puts}
+use Rattle.jt_lower.specs.Lower.{made_asm, flag, load_of, expr_asm, row_asm}
+use Rattle.jt_lower.specs.Emission.{tag_view, side_asm, instead_asm, Puts}
 use Rattle.jt_lower.specs.declared.emitter.Emitter.{Emitter}
 use Rattle.jt_ast.specs.Expressions.{Text}
 use Rattle.jt_value.specs.Place.{Place}
@@ -56,20 +56,22 @@ emit_expression-returns-in-Absent t c = search (arith, rules, puts_as, view_Abse
 
 -- ---- expressions with parts
 
-pub emit_expression-returns-in_ok-put-in-Made : goal.emit_expression-returns-in_ok-put-in-Made
-emit_expression-returns-in_ok-put-in-Made t c = λ ts h s.
+pub emit_expression-returns-in_ok-emit_made-in-Made : goal.emit_expression-returns-in_ok-emit_made-in-Made
+emit_expression-returns-in_ok-emit_made-in-Made t c = λ ts h s.
     let o = tag_view ts c.args.tag in
     let k = c.in-Made.made in
     let es = row_view c.deref.result.now none in
     let seen = seen_made c.args.expr.now k c.in-Made.row c.deref.result.now c.in-Made.is c.deref.ensures.value in
     let counted = c.count_values.ensures
     ∙ ap (λ l. row_count (row_view l none)) (c.deref-in-Made.ensures.value ∙ sym c.deref.ensures.value) in
-    let i = nary_op (nary_op_view k) (row_count es) in
-    let given = subst (λ n. Given c.made_of.result (nary_op (nary_op_view k) n)) counted c.made_of.ensures in
-    puts_as ts c.args.code.now c.put-in-Made.new.self (expr_asm o (expr_view c.args.expr.now) h)
-    (both (row_asm o es h) (one o i)) (ap (λ x. expr_asm o x h) seen)
-    (puts_then ts c.args.code.now c.emit_row.new.code c.put-in-Made.new.self (row_asm o es h) (one o i)
-    (c.in_ok-emit_row-in-Made.ensures ts h s) (c.in_ok-put-in-Made.ensures ts i given))
+    let all = λ (n : ℕ). made_asm o (nary_op_view k) n in
+    let c1 = c.emit_row.new.code in
+    let c2 = c.emit_made.new.code in
+    puts_as ts c.args.code.now c2 (expr_asm o (expr_view c.args.expr.now) h)
+    (both (row_asm o es h) (all (row_count es))) (ap (λ x. expr_asm o x h) seen)
+    (puts_then ts c.args.code.now c1 c2 (row_asm o es h) (all (row_count es))
+    (c.in_ok-emit_row-in-Made.ensures ts h s)
+    (subst (λ n. Puts ts c1 (all n) c2) counted (c.in_ok-emit_made-in-Made.ensures ts)))
 
 pub emit_expression-returns-in_ok-emit_expression-in-Conjunction :
     goal.emit_expression-returns-in_ok-emit_expression-in-Conjunction

@@ -1,4 +1,4 @@
-use Rattle.std.proofs.Common.{◌≡◌, suc, ◌+◌, List, length, get_or, ap, ◌∙◌, subst, arith}
+use Rattle.std.proofs.Common.{◌≡◌, suc, ◌+◌, List, length, get_or, take, ap, ◌∙◌, subst, arith}
 use Rattle.std.specs.Prelude.{min}
 use Rattle.std.proofs.lemmas.List.{take_all}
 use Rattle.jt_ids.specs.FilterTable.{filter_id}
@@ -29,11 +29,14 @@ loop-filter-preserved c = λ ts h before s p.
       ap (λ (es : List Entry). row_count (row_view es none)) c.deref-in-loop-filter.ensures.value,
     ) in
     filter_step ts (tag_view ts c.args.tag) c.args.filtered.now.filters.items l.filter-index f
-    (expr_view c.args.filtered.now.value) c.deref.result.now n h before l.code c.emit_row.new.code c.put.new.self
+    (expr_view c.args.filtered.now.value) c.deref.result.now n h before c.emit_if_required.new.code c.emit_row.new.code
+    c.put.new.self
     (omega (arith, ap length c.deref-filter-items.ensures.value))
     (c.filter-item.is ∙ ap (λ (fs : List SlotFilter). get_or fs l.filter-index f) c.deref-filter-items.ensures.value)
     c.deref.ensures.value counted
-    (l.invariant ts h before s p)
+    (c.in_ok-emit_if_required.ensures ts before
+    (filters_after (take l.filter-index c.args.filtered.now.filters.items) (expr_view c.args.filtered.now.value)) h
+    (l.invariant ts h before s p))
     (c.in_ok-emit_row.ensures ts (suc h) (stands_raised c.args.above c.saturating_add.result h raised s))
     (c.in_ok-put.ensures ts (nary_op (slots.filter (filter_id f.filter) f.escaping) n) c.made_of.ensures)
 
@@ -41,7 +44,8 @@ pub returns : goal.returns
 returns c = λ ts h s.
     let l = c.loop-filter in
     let v = c.args.filtered.now in
-    subst (λ (fs : List SlotFilter). Puts ts c.args.code.now
+    c.in_ok-emit_if_required-2.ensures ts c.args.code.now (filters_after v.filters.items (expr_view v.value)) h
+    (subst (λ (fs : List SlotFilter). Puts ts c.args.code.now
     (expr_asm (tag_view ts c.args.tag) (filters_after fs (expr_view v.value)) h) l.code)
     (take_all l.filter-index v.filters.items (omega (arith, ap length c.deref-filter-items.ensures.value)))
-    (l.invariant ts h c.args.code.now s (c.in_ok-emit_expression.ensures ts h s))
+    (l.invariant ts h c.args.code.now s (c.in_ok-emit_expression.ensures ts h s)))

@@ -112,7 +112,11 @@ abbrev pub filters_locals : List SlotFilter → ℕ
 filters_locals [] = 0
 filters_locals (f ∷ fs) = max (row_locals (row_view f.row.items slots.none)) (filters_locals fs)
 
+pub required_counted : (b : Bool) (x : slots.SlotExpr ℕ) → expr_locals (slots.required_if b x) ≡ expr_locals x
+required_counted false x = refl
+required_counted true x = max_zero (expr_locals x)
+
 pub filters_counted : (fs : List SlotFilter) (x : slots.SlotExpr ℕ)
     → expr_locals (filters_after fs x) ≡ max (expr_locals x) (filters_locals fs)
 filters_counted [] x = sym (max_zero (expr_locals x))
-filters_counted (f ∷ fs) x = search (arith, rules, filters_counted fs, max_again)
+filters_counted (f ∷ fs) x = search (arith, rules, filters_counted fs, required_counted, max_again)

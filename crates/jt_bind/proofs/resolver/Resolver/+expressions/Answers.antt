@@ -1,12 +1,14 @@
 use Rattle.jt_value.specs.Tree as tree
 use Rattle.jt_ids.specs.declared.op_id.OpId.TheVariants as op
 use Rattle.jt_ir.specs.declared.program.NaryOp.TheVariants as m
+use Rattle.jt_ast.specs.ExpressionView as written
 use Rattle.jt_ast.proofs.ExpressionViews.{view_Call, view_Filter, view_Test}
 use Rattle.jt_bind.proofs
 use proofs.slots
-use proofs.{None, Some, exprs_view, filled_of, filter_id, filter_row_of, own, row_of, values, drop_all, ◌∙◌, arith}
-use proofs.{add-one, IfOk-weaker, count_length, named_is, parameters_are, lead_both, row_entry, made_placed}
-use proofs.{invoked_placed, row_left, pairs_left, pairs_view}
+use proofs.{None, Some, expr_of, expr_view, exprs_view, filled_of, filter_id, filter_row_of, own, row_of, values}
+use proofs.{drop_all, ◌∙◌, arith, add-one, IfOk-weaker, count_length, named_is, parameters_are, lead_both}
+use proofs.{row_entry, made_placed, invoked_placed, row_left, pairs_left, pairs_view, joined_form, IsPlaced, Term}
+use proofs.{subst, sym, true}
 use Rattle.jt_bind.proofs.resolver.Resolver.+expressions.Goals as goal
 
 pub resolve_row-loop-expr-preserved : goal.resolve_row-loop-expr-preserved
@@ -65,20 +67,42 @@ resolve_asides-loop-value-preserved t c = λ left.
 
 pub resolve_binary-returns-in-Operation : goal.resolve_binary-returns-in-Operation
 resolve_binary-returns-in-Operation t c =
-    rw (← c.form_of.ensures, c.in-Operation.is)
+    rw (← c.form_of.ensures, c.in-Operation.is, ← c.requires_operands.ensures, c.if-requires_operands.false)
     (rw (c.from_ref-first.ensures.value, c.from_ref-rest.ensures.value) at c.resolve_made.ensures)
 
 pub resolve_binary-returns-in_ok-inside-in-Negation : goal.resolve_binary-returns-in_ok-inside-in-Negation
 resolve_binary-returns-in_ok-inside-in-Negation t c =
     IfOk-weaker c.on_one.result _ _
-    (λ e h. rw (← c.form_of.ensures, c.in-Negation.is) (h _ _ _
+    (λ e h. rw (← c.form_of.ensures, c.in-Negation.is, ← c.requires_operands.ensures, c.if-requires_operands.false)
+    (h _ _ _
     (rw (c.from_ref-first.ensures.value, c.from_ref-rest.ensures.value) at c.in_ok-inside-in-Negation.ensures)))
     c.on_one.ensures
 
 pub resolve_binary-returns-in_ok-second-in-Shortcut : goal.resolve_binary-returns-in_ok-second-in-Shortcut
 resolve_binary-returns-in_ok-second-in-Shortcut t c =
-    rw (← c.form_of.ensures, c.in-Shortcut.is)
+    rw (← c.form_of.ensures, c.in-Shortcut.is, ← c.requires_operands.ensures, c.if-requires_operands.false)
     (c.apply_shortcut.ensures _ _ _ _ _ c.in_ok-first-in-Shortcut.ensures c.in_ok-second-in-Shortcut.ensures)
+
+pub resolve_binary-returns-then-requires_operands : goal.resolve_binary-returns-then-requires_operands
+resolve_binary-returns-then-requires_operands t c =
+    let r = c.args.self.now in
+    IfOk-weaker c.resolve_joined.result _ _
+    (λ e h. subst (λ (x : Term). IsPlaced x (expr_view e) (values c.args.pool.now) (values c.resolve_joined.new.pool))
+    (joined_form _ r.senv.escaping c.args.operator _ _
+    (sym c.requires_operands.ensures ∙ c.if-requires_operands.true)) h) c.resolve_joined.ensures
+
+pub resolve_joined-returns : goal.resolve_joined-returns
+resolve_joined-returns t c =
+    let right = slots.required_if true (expr_of c.args.self.now (written.expr_view c.args.right.now)) in
+    rw (c.into_part.ensures, ← c.join.ensures) (made_placed (m.Operator c.join.result) _
+    (lead_both
+    (rw c.in_ok-with_capacity.ensures.items at (c.in_ok-resolve_operand.ensures (slots.item right slots.none)))
+    (c.in_ok-resolve_operand-2.ensures slots.none)))
+
+pub resolve_operand-returns : goal.resolve_operand-returns
+resolve_operand-returns t c =
+    IfOk-weaker c.put_argument.result _ _
+    (λ u h. λ left. row_entry None _ (c.in_ok-next.ensures _ _ _ c.in_ok-value.ensures) h) c.put_argument.ensures
 
 pub resolve_when-returns : goal.resolve_when-returns
 resolve_when-returns t c =
@@ -145,9 +169,9 @@ resolve_filter-returns-in_default t c =
 
 pub resolve_filter-returns : goal.resolve_filter-returns
 resolve_filter-returns t c =
-    rw (c.into_part.ensures, named_is, ← c.filter_of.ensures, c.in-Some.is)
+    rw (c.into_part.ensures, named_is, ← c.filter_of.ensures, c.in-Some.is, ← c.requires_input.ensures)
     (made_placed (m.Filter c.in-Some.filter c.args.self.now.senv.escaping) _
-    (lead_both (rw (c.new.ensures.items, c.from_ref.ensures.value) at (c.in_ok-resolve_row.ensures
+    (lead_both (rw c.new.ensures.items at (c.in_ok-resolve_operand.ensures
     (filter_row_of c.args.self.now (Some (filter_id c.in-Some.filter)) c.args.arguments)))
     c.in_ok-resolve_filter_row.ensures))
 

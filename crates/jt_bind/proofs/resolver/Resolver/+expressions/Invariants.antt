@@ -41,6 +41,12 @@ decreases-resolve_attribute l = 6 * size-Expr l.value.now + 2
 abbrev pub decreases-resolve_binary : goal.decreases-resolve_binary
 decreases-resolve_binary l = 6 * max (size-Expr l.left.now) (size-Expr l.right.now) + 4
 
+abbrev pub decreases-resolve_joined : goal.decreases-resolve_joined
+decreases-resolve_joined l = 6 * max (size-Expr l.left.now) (size-Expr l.right.now) + 2
+
+abbrev pub decreases-resolve_operand : goal.decreases-resolve_operand
+decreases-resolve_operand l = 6 * size-Expr l.operand.now + 1
+
 abbrev pub decreases-resolve_when : goal.decreases-resolve_when
 decreases-resolve_when l = 6 * max (size-Expr l.condition.now) (size-Expr l.value.now) + 2
 

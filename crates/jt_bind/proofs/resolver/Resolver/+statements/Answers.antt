@@ -1,11 +1,11 @@
 use Rattle.jt_ast.proofs.StatementViews.{view_Block, view_Set}
 use Rattle.jt_bind.proofs
 use proofs.slots
-use proofs.{alone, ◌+◌, drop, pairs_view, filter_calls_view, body_view, followed, values, templates_of, senv_of}
-use proofs.{line_of, body_of, scoped_of, filters_of, values_of, bound_all, drop_all, ap, arith, IfOk-weaker, lead_both}
-use proofs.{emits_of, emits_both, place_is, followed_again, choice_same, branch_lead, choice_emitted, capture_emitted}
-use proofs.{print_emitted, assign_emitted, loop_emitted, statements_left, branches_left, freed, filter_shown}
-use proofs.{values_emitted, scope_emitted, turns_as}
+use proofs.{alone, ◌+◌, cenv_in, drop, pairs_view, filter_calls_view, body_view, followed, values, templates_of}
+use proofs.{senv_of, line_of, body_of, scoped_of, filters_of, values_of, bound_all, drop_all, ap, arith}
+use proofs.{IfOk-weaker, lead_both, emits_of, emits_both, place_is, followed_again, choice_same, branch_lead}
+use proofs.{choice_emitted, capture_emitted, print_emitted, assign_emitted, loop_emitted, statements_left}
+use proofs.{branches_left, freed, filter_shown, values_emitted, scope_emitted, turns_as}
 use Rattle.jt_bind.proofs.resolver.Resolver.+statements.Goals as goal
 
 -- ---- bodies
@@ -117,7 +117,8 @@ resolve_filter_block-returns t c =
     let kept = slots.local r.senv.free in
     let i = freed r c.in_ok-inside.field-0 in
     let first = alone (slots.capture r.senv.escaping kept (scoped_of r b (senv_of i))) in
-    let second = alone (slots.print (line_of r line) r.senv.escaping (filters_of i fs (slots.variable kept))) in
+    let second = alone (slots.print (line_of r line) r.senv.escaping
+    (slots.required_if (cenv_in r.tables.now).strict (filters_of i fs (slots.variable kept)))) in
     IfOk-weaker c.put_filtered.result _ _
     (λ u h. emits_of T (followed first second) _ _ _ _ _
     (filter_shown r line fs b c.in_ok-inside.field-0 c.in_ok-inside.ensures)

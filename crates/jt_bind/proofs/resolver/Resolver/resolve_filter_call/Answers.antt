@@ -1,8 +1,9 @@
 use Rattle.jt_bind.proofs.{◌≡◌, expr_values, values, take_at, take-map, filters_push, named_is, filter_placed}
+use Rattle.jt_bind.proofs.{required_placed}
 use Rattle.jt_bind.proofs.resolver.Resolver.resolve_filter_call.Goals as goal
 
-pub returns-in_default : goal.returns-in_default
-returns-in_default c = λ k p n h.
+pub returns-in_default-clause-added : goal.returns-in_default-clause-added
+returns-in_default-clause-added c = λ k p n h.
     let cut : values c.truncate.new.self ≡ p =
     rw (c.truncate.ensures.items, ← take-map, h.pooled) (take_at p (expr_values k) c.args.start n) in
     rw (
@@ -16,8 +17,8 @@ returns-in_default c = λ k p n h.
       c.clear.ensures.items,
     ) (c.absent.ensures p)
 
-pub returns : goal.returns
-returns c = λ k p n h.
+pub returns-clause-added : goal.returns-clause-added
+returns-clause-added c = λ k p n h.
     let added = c.resolve_filter_row.new.done in
     let emitted = rw c.new-given.ensures.items at c.in_ok-resolve_filter_row.ensures in
     rw (
@@ -29,4 +30,5 @@ returns c = λ k p n h.
       c.in-Some.is,
       c.in_ok-push.ensures.items,
       filters_push,
-    ) (filter_placed _ k _ _ added.items p _ _ h emitted)
+      ← c.requires_input.ensures,
+    ) (filter_placed _ _ _ _ added.items p _ _ (required_placed c.requires_input.result k _ p _ h) emitted)

@@ -17,9 +17,10 @@ pub use internal.{blocks_in, bodies_in, body_locals, body_of, body_values, body_
 pub use internal.{branches_locals, branches_view, bytes_eq, callee, callee_in, cenv_in, chained_in, choice_of}
 pub use internal.{choice_view, codes, condition_in, condition_locals, condition_values, count, counted_from}
 pub use internal.{default_value, defaults_of, drop, end, entries_of, entry, entry_front, expr_locals, expr_values}
-pub use internal.{expr_view, exprs_view, false, files_in, files_view, filled, filled_of, filled_some, filter}
-pub use internal.{filter_call_view, filter_calls_view, filter_id, filter_row_of, filtered_view, filters_after}
-pub use internal.{filters_of, first_body, first_locals, first_slot, flat_map, followed, framed, fresh, get_or, given_in}
+pub use internal.{expr_of, expr_view, exprs_view, false, files_in, files_view, filled, filled_of, filled_some, filter}
+pub use internal.{filter_call_view, filter_calls_view, filter_id, filter_row_of, filtered_view}
+pub use internal.{filters_after, filters_of, filters_view, first_body, first_locals, first_slot, flat_map, followed}
+pub use internal.{framed, fresh, get_or, given_in}
 pub use internal.{given_to, global, globals_in, if◌then◌else◌, inside_of, invoke, invoked_body, is_ignored, is_none}
 pub use internal.{is_some, item, kept_slots, keywords, last_among, layer_in, layer_view, length, library_of, line_of}
 pub use internal.{listed, local, locals_from, macro_in, macro_of, macro_view, macros, macros_in, map, max, most, name}
@@ -34,7 +35,7 @@ pub use internal.{table_of, take, target_locals, targets_view, templates, templa
 pub use internal.{true, unit, unit_of, unwrap_or, up_to, value_in, value_or, values, values_of, variable, view, zero, ℕ}
 pub use internal.{◌*◌, ◌++◌, ◌+◌, ◌-◌, ◌<◌, ◌==◌, ◌∷◌, ◌≡◌, ◌≤◌}
 pub use Rattle.std.proofs.Common.{Global, add-one, ap, append-nil, append_assoc, arith, inl, inr, length-append}
-pub use Rattle.std.proofs.Common.{length-drop, rules, sym, zero-add, ◌∙◌}
+pub use Rattle.std.proofs.Common.{length-drop, rules, subst, sym, zero-add, ◌∙◌}
 pub use Rattle.std.proofs.lemmas.List.{at_drop_all, drop-map, drop_all, drop_more, length-map, map-append}
 pub use Rattle.std.proofs.lemmas.List.{reverse-append, take-map, take_all, take_at, take_more}
 pub use Rattle.std.proofs.lemmas.Result.{IfOk-weaker}

@@ -1,0 +1,50 @@
+-- Runs that are counted in slices.
+use Rattle.std.proofs.Common.{◌≡◌, ◌∙◌, ℕ, ◌+◌, Option, Some, None, ap, refl, sym}
+use Rattle.jt_value.specs.Pairs.{Pairs}
+use Rattle.jt_image.specs.Code.{Code}
+use Rattle.jt_image.specs.Config as config
+use Rattle.jt_image.specs.Run.{passed}
+use Rattle.jt_machine.specs.Session.{begun, outcome_of}
+use Rattle.jt_machine.specs.Metering.{Metered, MeteringLaws, metered_after, metered_start, nothing_used}
+use Rattle.jt_machine.specs.declared.Used.{Used}
+use Rattle.jt_host.specs.Metered.{EndsUsing}
+
+-- A run before its first step, by the limit that a value of the context exceeds.
+abbrev from : Code → Pairs → config.Budget → Option config.Limit → Metered
+from code context b limit = record {
+  session = record { code = code; stage = begun limit code context b };
+  used = nothing_used;
+}
+
+none_more : (code : Code) (context : Pairs) (b : config.Budget) (limit : Option config.Limit)
+    → metered_after 0 (from code context b limit) ≡ from code context b limit
+none_more code context b None = refl
+none_more code context b (Some limit) = refl
+
+-- Before its first step a run has executed 0 steps.
+pub at_start : (code : Code) (context : Pairs) (b : config.Budget) (run : Metered) → run ≡ metered_start code context b
+    → run ≡ metered_after 0 run
+at_start code context b run begins =
+    begins ∙ (sym (none_more code context b (passed b context code.names)) ∙ ap (metered_after 0) (sym begins))
+
+-- A slice more is executed after those before it.
+pub slice_more : MeteringLaws → (n k : ℕ) (start run next : Metered) → run ≡ metered_after n start
+    → next ≡ metered_after k run
+    → next ≡ metered_after (n + k) start
+slice_more laws n k start run next so_far is = is ∙ (ap (metered_after k) so_far ∙ laws.both n k start)
+
+-- A run that has ended after some steps ends so, and uses what it has used.
+pub ends_using : MeteringLaws → (code : Code) (context : Pairs) (b : config.Budget) (n : ℕ) (start run : Metered)
+    (o : config.Outcome) (u : Used)
+    → start ≡ metered_start code context b → run ≡ metered_after n start
+    → outcome_of run.session ≡ Some o → u ≡ run.used → EndsUsing code context b o u
+ends_using laws code context b n start run o u begins so_far ends uses =
+    let same : metered_after n (metered_start code context b) ≡ run = sym (so_far ∙ ap (metered_after n) begins) in
+    let ended : outcome_of (metered_after n (metered_start code context b)).session ≡ Some o =
+    ap (λ (m : Metered). outcome_of m.session) same ∙ ends in
+    record {
+      runs = laws.ends code context b n o ended;
+      steps = n;
+      ends = ended;
+      used = ap (λ (m : Metered). m.used) same ∙ sym uses;
+    }
