@@ -139,30 +139,30 @@ class ContextError(Refused):
         return f"{self.path}: {self.what}"
 
 
-class TimeoutError(JtError, builtins.TimeoutError):
+class _Stopped(JtError):
+    """A run that its host stopped: `used` is what it had used until then."""
+
+    used: Used
+    _how: str
+
+    def __init__(self, used: Used) -> None:
+        super().__init__(used)
+        self.used = used
+
+    def __str__(self) -> str:
+        return f"{self._how} after {self.used}"
+
+
+class TimeoutError(_Stopped, builtins.TimeoutError):
     """A run that was stopped at its deadline: `used` is what it had used until then."""
 
-    used: Used
-
-    def __init__(self, used: Used) -> None:
-        super().__init__(used)
-        self.used = used
-
-    def __str__(self) -> str:
-        return f"timed out after {self.used}"
+    _how = "timed out"
 
 
-class Cancelled(JtError):
+class Cancelled(_Stopped):
     """A run that was stopped by `cancel`: `used` is what it had used until then."""
 
-    used: Used
-
-    def __init__(self, used: Used) -> None:
-        super().__init__(used)
-        self.used = used
-
-    def __str__(self) -> str:
-        return f"cancelled after {self.used}"
+    _how = "cancelled"
 
 
 class NoMemory(JtError, MemoryError):
