@@ -1,0 +1,99 @@
+//! Finds the path that a tag prints, and the first of its names that has no value in a context.
+
+ghost use Rattle.std.specs.Prelude.{◌≡◌, ◌<◌, IfOk, length, option_map};
+ghost use Rattle.jt_ast.specs.ExpressionView.{expr_view};
+ghost use Rattle.jt_ast.specs.Texts.{texts};
+ghost use Rattle.jt_value.specs.ContextView.{pairs_of};
+ghost use Rattle.jt_value.specs.View.{view};
+ghost use Rattle.jt_notes.specs.Notes as spec;
+
+use jt_ast::{Expr, literal_text};
+use jt_value::{Context, Value};
+use std::alloc::{AllocError, Global};
+
+/// Returns the path with a key appended.
+fn longer<'a>(path: Option<Vec<&'a str>>, key: &'a str) -> Result<Option<Vec<&'a str>>, AllocError>
+    ensures { IfOk result (λ p. option_map (λ v. texts v.items) p
+        ≡ spec.longer (option_map (λ v. texts v.items) path.entry) key.now) }
+{
+    let Some(mut path) = path else {
+        return Ok(None);
+    };
+    path.push(key)?;
+    Ok(Some(path))
+}
+
+/// Returns the path that an expression is, if it is a name, or keys of the value of a name.
+fn path_of(alloc: Global, expr: &Expr) -> Result<Option<Vec<&str>>, AllocError>
+    ensures { IfOk result (λ p. option_map (λ v. texts v.items) p
+        ≡ spec.path_of (expr_view expr.now)) }
+{
+    match expr {
+        Expr::Name(name) => {
+            let mut path = Vec::new(alloc);
+            path.push(name.as_str())?;
+            Ok(Some(path))
+        }
+        Expr::Attribute(value, key) => longer(path_of(alloc, value)?, key.as_str()),
+        Expr::Item(value, index) => match literal_text(index) {
+            Some(key) => longer(path_of(alloc, value)?, key),
+            None => Ok(None),
+        },
+        _ => Ok(None),
+    }
+}
+
+/// Returns whether a filter of this name replaces an undefined value.
+fn is_default(name: &str) -> bool
+    ensures { result ≡ spec.is_default name.now }
+{
+    name == "default" || name == "d"
+}
+
+/// Returns the path that is printed, under any filters but `default`.
+pub(crate) fn printed_path(alloc: Global, expr: &Expr) -> Result<Option<Vec<&str>>, AllocError>
+    ensures { IfOk result (λ p. option_map (λ v. texts v.items) p
+        ≡ spec.printed_path (expr_view expr.now)) }
+{
+    match expr {
+        Expr::Group(inner) => printed_path(alloc, inner),
+        Expr::Filter { input, name, .. } => {
+            if is_default(name) {
+                return Ok(None);
+            }
+            printed_path(alloc, input)
+        }
+        _ => path_of(alloc, expr),
+    }
+}
+
+/// Returns the index of the first key of a path that a map on it does not have. The value is that
+/// of the path's first name.
+fn missing_key(value: &Value, path: &[&str]) -> Option<usize>
+    ensures { result ≡ spec.missing_key 1 (view value.now) (spec.rest (texts path.now)) }
+{
+    let mut value = value;
+    for index in 1..path.len() {
+        let Value::Map(map) = value else {
+            return None;
+        };
+        match map.get(path[index]) {
+            Some(inner) => value = inner,
+            None => return Some(index),
+        }
+    }
+    None
+}
+
+/// Returns the index of the first name of a path that has no value in the context.
+pub(crate) fn missing_name(context: &Context, path: &[&str]) -> Option<usize>
+    ensures { result ≡ spec.missing_name (pairs_of context.now) (texts path.now) }
+{
+    let [name, ..] = path else {
+        return None;
+    };
+    match context.get(name) {
+        Some(value) => missing_key(value, path),
+        None => Some(0),
+    }
+}
