@@ -17,7 +17,8 @@ use Rattle.jt_notes.specs.internal.Facts.{blocks_from}
 turn : (chain : Seen) (left : ℕ) (x : Text) (i : ℕ) (old new : List Text) → 0 < left → i ≡ index_of chain.templates x
     → new ≡ old ++ map (λ b. b.name)
     (blocks_in (name_at chain.templates i) (body_at chain.templates i) chain.escaping)
-    → new ++ blocks_from chain (left - 1) (extends_of (body_at chain.templates i)) ≡ old ++ blocks_from chain left (Some x)
+    → new ++ blocks_from chain (left - 1) (extends_of (body_at chain.templates i))
+    ≡ old ++ blocks_from chain left (Some x)
 turn chain zero x i old new lt at is = absurd (omega (arith, lt))
 turn chain (suc k) x i old new lt at is =
     let s = sources_of chain in
