@@ -1,6 +1,6 @@
 -- What is suspicious in a chain for a context: prints that have no value in it, and blocks that no layout prints.
 use Rattle.std.specs.Prelude.{ℕ, suc, Bool, false, ◌||◌, List, [], ◌∷◌, ◌++◌, map, flat_map, Option, Some, None}
-use Rattle.std.specs.Prelude.{codes, if◌then◌else◌, option_and_then, option_map}
+use Rattle.std.specs.Prelude.{codes, if◌then◌else◌, option_and_then, option_map, unwrap_or}
 use Rattle.std.specs.Option.{option_map_or}
 use Rattle.std.specs.List.{filter_map}
 use Rattle.std.specs.Str.{bytes_eq}
@@ -10,11 +10,11 @@ use Rattle.jt_ast.specs.Statements.{Stmt, print, choose, for_each, set_block, wi
 use Rattle.jt_ast.specs.Statements.{macro, block, Body, end, stmt, Branches, no_branches, branch}
 use Rattle.jt_ast.specs.Texts.{among}
 use Rattle.jt_ast.specs.Written.{literal_text}
-use Rattle.jt_value.specs.Entries.{entry_of}
+use Rattle.jt_value.specs.Entries.{entry_of, keys as keys_of}
 use Rattle.jt_value.specs.Pairs.{Pairs, look}
 use Rattle.jt_value.specs.Tree as tree
 use Rattle.jt_value.specs.Tree.{Tree}
-use Rattle.jt_chains.specs.Chain.{Template, a_chain, all_bodies}
+use Rattle.jt_chains.specs.Chain.{Template, a_chain, all_bodies, parent_of}
 pub use Rattle.jt_chains.specs.Chain.{extends_of}
 use Rattle.jt_chains.specs.View.{Seen, sources_of}
 use Rattle.jt_uses.specs.Uses.{Use, binds, declares_macro, binds_library, binds_macro, body_uses, outside}
@@ -85,22 +85,30 @@ printed_path (group inner) = printed_path inner
 printed_path (filter input x arguments keywords) = if is_default x then None else printed_path input
 printed_path e = path_of e
 
--- The index of the first key that a map on the path does not have; the keys are counted from n. A value that is no map
--- ends the search.
-abbrev pub missing_key : ℕ → Tree → List Text → Option ℕ
+-- The first name of a path that has no value: its index in the path, and the names that are there in its place.
+pub record Missing : Type 0 where
+  pub index : ℕ
+  pub beside : List Text
+
+-- The first key that a map on the path does not have; the keys are counted from n. A value that is no map ends the
+-- search.
+abbrev pub missing_key : ℕ → Tree → List Text → Option Missing
 missing_key n (tree.map entries) (key ∷ keys) =
-    option_map_or (λ value. missing_key (suc n) value keys) (entry_of key entries) (Some n)
+    option_map_or (λ value. missing_key (suc n) value keys) (entry_of key entries)
+    (Some (record { index = n; beside = keys_of entries }))
 missing_key n value keys = None
 
 abbrev pub rest : List Text → List Text
 rest [] = []
 rest (x ∷ xs) = xs
 
--- The index of the first name of a path that has no value: the first is a name of the context, and each other one a key
--- of the value before it.
-abbrev pub missing_name : Pairs → List Text → Option ℕ
+-- The first name of a path that has no value: the first is a name of the context, and each other one a key of the value
+-- before it.
+abbrev pub missing_name : Pairs → List Text → Option Missing
 missing_name context [] = None
-missing_name context (x ∷ keys) = option_map_or (λ value. missing_key 1 value keys) (look x context) (Some 0)
+missing_name context (x ∷ keys) =
+    option_map_or (λ value. missing_key 1 value keys) (look x context)
+    (Some (record { index = 0; beside = map (λ entry. entry.0) context }))
 
 -- ---- names that are bound
 
@@ -138,11 +146,15 @@ blocks_up chain parent = map (λ b. b.name) (all_bodies (sources_of chain) chain
 abbrev pub blocks_above : Seen → Template → Option (List Text)
 blocks_above chain t = option_map (blocks_up chain) (extends_of t.body)
 
+-- The names of the blocks of the templates above the one of this name.
+abbrev pub names_above : Seen → Text → List Text
+names_above chain t = unwrap_or (option_map (blocks_up chain) (parent_of (sources_of chain t))) []
+
 -- ---- notes
 
 pub data Kind : Type 0 where
-  -- A print of a path that has no value, with the number of its first names that have one.
-  blank : List Text → ℕ → Kind
+  -- A print of a path that has no value, with the first name on it that has none.
+  blank : List Text → Missing → Kind
   -- A block that no template above has.
   lost : Text → Kind
 

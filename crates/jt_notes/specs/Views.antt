@@ -17,7 +17,8 @@ abbrev pub tags_view : List Tag → List spec.Tag
 tags_view = map tag_view
 
 abbrev pub kind_view : NoteKind → spec.Kind
-kind_view (kind.BlankPrint path found) = spec.blank (texts path.items) found
+kind_view (kind.BlankPrint path found beside) =
+    spec.blank (texts path.items) (record { index = found; beside = map (λ entry. entry.0) beside.now })
 kind_view (kind.LostBlock x) = spec.lost x.now
 
 abbrev pub note_view : Note → spec.Note

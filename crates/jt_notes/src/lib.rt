@@ -14,4 +14,5 @@ mod noting;
 mod paths;
 mod tags;
 
+pub use names::names_above;
 pub use noting::{Note, NoteKind, notes_on};

@@ -155,6 +155,27 @@ pub(crate) fn blocks_up<'a>(
     Ok(found)
 }
 
+/// Returns the names of the blocks of the templates above the one of this name. A template that
+/// extends none has none above it.
+///
+/// # Errors
+///
+/// `AllocError` if a growth is refused.
+#[tactic(auto, using(crate::proofs::BlocksUp::parent))]
+pub fn names_above<'a>(
+    alloc: Global,
+    chain: &'a Chain,
+    template: &str,
+) -> Result<Vec<&'a str>, AllocError>
+    ensures { IfOk result (λ names. texts names.items
+        ≡ spec.names_above (chain_view chain.now) template.now) }
+{
+    match parent_at(chain, file_named(chain, template)) {
+        Some(parent) => blocks_up(alloc, chain, parent),
+        None => Ok(Vec::new(alloc)),
+    }
+}
+
 /// Returns an index of the names of the blocks above a template, if it extends another one.
 pub(crate) fn blocks_above<'a>(
     alloc: Global,

@@ -12,20 +12,26 @@ ghost use Rattle.jt_notes.specs.Views.{kind_view, notes_view, tag_view};
 ghost use Rattle.jt_notes.specs.internal.Facts.{AreAbove, AreFacts};
 
 use crate::names::{blocks_above, bound_names, has_name};
-use crate::paths::{missing_name, printed_path};
+use crate::paths::{MissingName, missing_name, printed_path};
 use crate::tags::{Tag, tags_in};
 use jt_ast::Expr;
 use jt_chains::{Chain, TemplateFile};
 use jt_names::NameIndex;
-use jt_value::Context;
+use jt_value::{Context, Text, Value};
 use std::alloc::{AllocError, Global};
 
 /// What is suspicious about a tag.
 #[derive(Drop)]
 pub enum NoteKind<'a> {
-    /// A print of a path that has no value: the path, and the number of its first names that have
-    /// one. The name after these is not in the context, or no key of their value.
-    BlankPrint { path: Vec<&'a str>, found: usize },
+    /// A print of a path that has no value.
+    BlankPrint {
+        path: Vec<&'a str>,
+        /// The number of the path's first names that have a value. The next one has none.
+        found: usize,
+        /// The entries of the context, or of the value of these names. None of them has the next
+        /// name.
+        beside: &'a [(Text, Value)],
+    },
     /// A block of this name that no template above has, so that it is not printed.
     LostBlock(&'a str),
 }
@@ -42,7 +48,7 @@ pub struct Note<'a> {
 fn blank_print<'a>(
     alloc: Global,
     bound: &NameIndex<'_>,
-    context: &Context,
+    context: &'a Context,
     printed: &'a Expr,
 ) -> Result<Option<NoteKind<'a>>, AllocError>
     ensures { (xs : List spec.Text) → AreIndices 0 xs bound.now.indices
@@ -56,7 +62,11 @@ fn blank_print<'a>(
         return Ok(None);
     }
     match missing_name(context, &path) {
-        Some(found) => Ok(Some(NoteKind::BlankPrint { path, found })),
+        Some(MissingName { index, beside }) => Ok(Some(NoteKind::BlankPrint {
+            path,
+            found: index,
+            beside,
+        })),
         None => Ok(None),
     }
 }
@@ -89,14 +99,14 @@ fn lost_block<'a>(above: &Option<NameIndex<'_>>, name: &'a str) -> Option<NoteKi
 #[derive(Drop)]
 struct Known<'a, 'b> {
     bound: &'b NameIndex<'a>,
-    context: Option<&'b Context>,
+    context: Option<&'a Context>,
     above: Option<NameIndex<'a>>,
 }
 
 /// Returns what is suspicious about a tag.
 fn kind_of<'a>(
     alloc: Global,
-    known: &Known<'_, '_>,
+    known: &Known<'a, '_>,
     tag: Tag<'a>,
 ) -> Result<Option<NoteKind<'a>>, AllocError>
     ensures { (f : spec.Facts) → AreFacts known.now f → IfOk result
@@ -114,7 +124,7 @@ fn kind_of<'a>(
 /// Adds the notes on the tags of a template.
 fn add_notes<'a>(
     alloc: Global,
-    known: &Known<'_, '_>,
+    known: &Known<'a, '_>,
     file: &'a TemplateFile,
     found: &mut Vec<Note<'a>>,
 ) -> Result<(), AllocError>
@@ -149,7 +159,7 @@ fn add_notes_on<'a, 'b>(
     alloc: Global,
     chain: &'a Chain,
     bound: &'b NameIndex<'a>,
-    context: Option<&'b Context>,
+    context: Option<&'a Context>,
     file: &'a TemplateFile,
     found: &mut Vec<Note<'a>>,
 ) -> Result<(), AllocError>
@@ -176,7 +186,7 @@ fn add_notes_on<'a, 'b>(
 pub fn notes_on<'a>(
     alloc: Global,
     chain: &'a Chain,
-    context: Option<&Context>,
+    context: Option<&'a Context>,
 ) -> Result<Vec<Note<'a>>, AllocError>
     ensures { IfOk result (λ notes. notes_view notes.items
         ≡ spec.notes (chain_view chain.now) (option_map pairs_of (option_copied context.entry))) }

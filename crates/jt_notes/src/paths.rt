@@ -1,14 +1,16 @@
 //! Finds the path that a tag prints, and the first of its names that has no value in a context.
 
-ghost use Rattle.std.specs.Prelude.{◌≡◌, ◌<◌, IfOk, length, option_map};
+ghost use Rattle.std.specs.Prelude.{◌≡◌, ◌<◌, IfOk, length, map, option_map};
 ghost use Rattle.jt_ast.specs.ExpressionView.{expr_view};
 ghost use Rattle.jt_ast.specs.Texts.{texts};
+ghost use Rattle.jt_value.specs.Entries.{keys};
 ghost use Rattle.jt_value.specs.ContextView.{pairs_of};
 ghost use Rattle.jt_value.specs.View.{view};
 ghost use Rattle.jt_notes.specs.Notes as spec;
+ghost use Rattle.jt_notes.specs.internal.Missing.{missing_view};
 
 use jt_ast::{Expr, literal_text};
-use jt_value::{Context, Value};
+use jt_value::{Context, Text, Value, ValueMap};
 use std::alloc::{AllocError, Global};
 
 /// Returns the path with a key appended.
@@ -67,10 +69,36 @@ pub(crate) fn printed_path(alloc: Global, expr: &Expr) -> Result<Option<Vec<&str
     }
 }
 
-/// Returns the index of the first key of a path that a map on it does not have. The value is that
-/// of the path's first name.
-fn missing_key(value: &Value, path: &[&str]) -> Option<usize>
-    ensures { result ≡ spec.missing_key 1 (view value.now) (spec.rest (texts path.now)) }
+/// The first name of a path that has no value.
+#[derive(Clone, Copy)]
+pub(crate) struct MissingName<'a> {
+    /// Its index in the path.
+    pub index: usize,
+    /// The entries of the context, or of the map before it. None of them has this name.
+    pub beside: &'a [(Text, Value)],
+}
+
+/// Returns the entries of a map.
+#[tactic(auto, using(crate::proofs::EntryNames::keys_of_entries))]
+fn entries_of_map(entries: &ValueMap) -> &[(Text, Value)]
+    ensures { map (λ entry. entry.0) result.now ≡ keys entries.now }
+{
+    entries.entries()
+}
+
+/// Returns the entries of a context.
+#[tactic(auto, using(crate::proofs::EntryNames::names_of_pairs))]
+fn entries_of_context(context: &Context) -> &[(Text, Value)]
+    ensures { map (λ entry. entry.0) result.now ≡ map (λ entry. entry.0) (pairs_of context.now) }
+{
+    context.entries()
+}
+
+/// Returns the first key of a path that a map on it does not have. The value is that of the path's
+/// first name.
+fn missing_key<'a>(value: &'a Value, path: &[&str]) -> Option<MissingName<'a>>
+    ensures { option_map missing_view result
+        ≡ spec.missing_key 1 (view value.now) (spec.rest (texts path.now)) }
 {
     let mut value = value;
     for index in 1..path.len() {
@@ -79,21 +107,28 @@ fn missing_key(value: &Value, path: &[&str]) -> Option<usize>
         };
         match map.get(path[index]) {
             Some(inner) => value = inner,
-            None => return Some(index),
+            None => {
+                let beside = entries_of_map(map);
+                return Some(MissingName { index, beside });
+            }
         }
     }
     None
 }
 
-/// Returns the index of the first name of a path that has no value in the context.
-pub(crate) fn missing_name(context: &Context, path: &[&str]) -> Option<usize>
-    ensures { result ≡ spec.missing_name (pairs_of context.now) (texts path.now) }
+/// Returns the first name of a path that has no value in the context.
+pub(crate) fn missing_name<'a>(context: &'a Context, path: &[&str]) -> Option<MissingName<'a>>
+    ensures { option_map missing_view result
+        ≡ spec.missing_name (pairs_of context.now) (texts path.now) }
 {
     let [name, ..] = path else {
         return None;
     };
     match context.get(name) {
         Some(value) => missing_key(value, path),
-        None => Some(0),
+        None => Some(MissingName {
+            index: 0,
+            beside: entries_of_context(context),
+        }),
     }
 }

@@ -1,36 +1,24 @@
 use Rattle.jt_notes.proofs.names.blocks_up.Goals as goal
-use Rattle.std.proofs.Common.{◌≡◌, ◌∙◌, ◌++◌, ◌<◌, ◌-◌, ℕ, List, [], Option, Some, None, Bool, ap, append_assoc, arith, map}
-use Rattle.std.proofs.Common.{refl, rules, suc, zero}
+use Rattle.std.proofs.Common.{◌≡◌, ◌∙◌, ◌++◌, ◌<◌, ◌-◌, ℕ, List, Option, Some, ap, append_assoc, arith, map}
+use Rattle.std.proofs.Common.{suc, zero}
 use Rattle.std.specs.Prelude.{flat_map}
 use Rattle.std.proofs.lemmas.List.{append-nil, map-append}
 use Rattle.std.proofs.lemmas.List.Concat.{flat_map-append}
-use Rattle.jt_chains.proofs.TemplatesByIndex.{named}
 use Rattle.jt_chains.specs.Along.{body_at}
-use Rattle.jt_chains.specs.Chain.{BlockBody, Sources, Template, blocks_in, extends_of, names_up, parent_of, sources_in, template}
+use Rattle.jt_chains.specs.Chain.{BlockBody, Template, blocks_in, extends_of, names_up, parent_of, template}
 use Rattle.jt_chains.specs.Indices.{index_of}
 use Rattle.jt_chains.specs.Parts.{name_at}
 use Rattle.jt_chains.specs.View.{Seen, chain_view, sources_of}
+use Rattle.jt_notes.proofs.BlocksUp.{here, none_up, parent}
 use Rattle.jt_notes.specs.Notes.{Text}
 use Rattle.jt_notes.specs.internal.Facts.{blocks_from}
-
-none_up : (s : Sources) (k : ℕ) → names_up s k None ≡ []
-none_up s zero = refl
-none_up s (suc k) = refl
-
-parent : (ts : List Template) (x : Text) (i : ℕ) → i ≡ index_of ts x
-    → parent_of (sources_in ts x) ≡ extends_of (body_at ts i)
-parent ts x i e = rw (e, named ts x) (search (arith, rules))
-
-here : (ts : List Template) (x : Text) (i : ℕ) (on : Bool) → i ≡ index_of ts x
-    → flat_map (λ t. blocks_in t.name t.body on) (template x (sources_in ts x))
-    ≡ blocks_in (name_at ts i) (body_at ts i) on
-here ts x i on e = rw (e, named ts x) (search (arith, rules, append-nil))
 
 -- A template on the path adds the names of its blocks.
 turn : (chain : Seen) (left : ℕ) (x : Text) (i : ℕ) (old new : List Text) → 0 < left → i ≡ index_of chain.templates x
     → new ≡ old ++ map (λ b. b.name)
     (blocks_in (name_at chain.templates i) (body_at chain.templates i) chain.escaping)
-    → new ++ blocks_from chain (left - 1) (extends_of (body_at chain.templates i)) ≡ old ++ blocks_from chain left (Some x)
+    → new ++ blocks_from chain (left - 1) (extends_of (body_at chain.templates i))
+    ≡ old ++ blocks_from chain left (Some x)
 turn chain zero x i old new lt at is = absurd (omega (arith, lt))
 turn chain (suc k) x i old new lt at is =
     let s = sources_of chain in
