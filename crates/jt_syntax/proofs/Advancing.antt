@@ -11,7 +11,8 @@ use Rattle.jt_ast.specs.Expressions.{Text, Expr, Exprs, Pairs}
 use Rattle.jt_expr.specs.Grammar.{Tokens, word, is_reserved, literal_of, names_test, Level, whole, disjunction}
 use Rattle.jt_expr.specs.Grammar.{conjunction, inversion, comparison, sum, concatenation, product, power, postscript}
 use Rattle.jt_expr.specs.Grammar.{signed, postfix, next, is_chain, level_of, operator_tokens, is_tokens}
-use Rattle.jt_expr.specs.Grammar.{begins_argument, opens_argument, SequenceKind, items, entries, arguments, keywords, closer}
+use Rattle.jt_expr.specs.Grammar.{begins_argument, opens_argument, SequenceKind, items, entries, arguments}
+use Rattle.jt_expr.specs.Grammar.{keywords, closer}
 use Rattle.jt_expr.specs.Grammar.{takes_plain, takes_names, behind_key, LeveledList, Spells, plain, an_if, an_if_else}
 use Rattle.jt_expr.specs.Grammar.{chain, inverted, upright, compared, alone, postscripts, minus, plus, unsigned}
 use Rattle.jt_expr.specs.Grammar.{postfixes, Goes, stay, operated, filtered, tested, attributed, indexed, called}

@@ -14,7 +14,7 @@ use Rattle.jt_expr.specs.Grammar.{Tokens, word, is_reserved, names_test, Level, 
 use Rattle.jt_expr.specs.Grammar.{conjunction, inversion, comparison, sum, concatenation, product, power, postscript}
 use Rattle.jt_expr.specs.Grammar.{signed, postfix, next, is_chain, level_of, operator_tokens, is_tokens}
 use Rattle.jt_expr.specs.Grammar.{begins_argument, SequenceKind, items, entries, arguments, keywords, closer}
-use Rattle.jt_expr.specs.Grammar.{takes_plain, takes_names, behind_key, LeveledList, no_parts, put, Spells, plain, an_if}
+use Rattle.jt_expr.specs.Grammar.{LeveledList, no_parts, Spells, plain, an_if}
 use Rattle.jt_expr.specs.Grammar.{an_if_else, chain, inverted, upright, compared, alone, postscripts, minus, plus}
 use Rattle.jt_expr.specs.Grammar.{unsigned, postfixes, Goes, stay, operated, filtered, tested, attributed, indexed}
 use Rattle.jt_expr.specs.Grammar.{called, Primary, a_number, a_text, a_constant, a_name, a_group, a_list, a_map}

@@ -1,4 +1,5 @@
 pub mod Advancing
+pub mod Allowed
 pub mod Covering
 pub mod Finishing
 pub mod TokenKinds

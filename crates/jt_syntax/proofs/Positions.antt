@@ -1,6 +1,6 @@
 -- The walk over the first tokens of a list, and the position at which it stops.
 use Rattle.std.proofs.Common.{◌≡◌, ℕ, zero, suc, ◌<◌, ◌≤◌, Bool, true, false, List, [], ◌∷◌, ◌++◌, refl, sym, ap, subst}
-use Rattle.std.proofs.Common.{◌∙◌, arith, Option, Some, None, rules, take, drop, length, map, get_or}
+use Rattle.std.proofs.Common.{◌∙◌, arith, Option, Some, None, rules, take, drop, length, map, get_or, append_assoc}
 use Rattle.std.proofs.lemmas.List.{take-append-drop, take_all}
 use Rattle.jt_scan.specs.declared.segment.Token.{Token}
 use Rattle.jt_scan.specs.View.{token_view}
@@ -42,3 +42,14 @@ stuck_behind ts i y e h c = record {
   begins = reached (take i ts) y h;
   ends = λ less. absurd (omega arith);
 }
+
+-- Tokens that begin an expression begin one up to each position.
+pub begins_part : (ts : Tokens) (i : ℕ) → Begins ts → Begins (take i ts)
+begins_part ts i v = (
+  drop i ts ++ v.0,
+  (
+    v.1.0,
+    subst (λ x. Spells whole v.1.0 x)
+        (sym (sym (append_assoc (take i ts) (drop i ts) v.0) ∙ ap (λ x. x ++ v.0) (take-append-drop i ts))) v.1.1,
+  ),
+)

@@ -1,6 +1,7 @@
 -- Each state that tokens lead to has tokens that finish it, so these tokens begin an expression. Tokens
 -- that lead to no state begin none.
-use Rattle.std.proofs.Common.{◌≡◌, ℕ, suc, ◌<◌, Bool, true, false, not, List, [], ◌∷◌, ◌++◌, codes, refl, sym, ap, subst}
+use Rattle.std.proofs.Common.{◌≡◌, ℕ, suc, ◌<◌, Bool, true, false, not, List, [], ◌∷◌, ◌++◌, codes, refl, sym, ap}
+use Rattle.std.proofs.Common.{subst}
 use Rattle.std.proofs.Common.{◌∙◌, arith, Option, Some, None, rules, ◌⊎◌, inl, inr, append_assoc, encode_utf8_all}
 use Rattle.std.proofs.Common.{bytes_eq, take, length}
 use Rattle.std.proofs.lemmas.List.{append-nil}
@@ -35,7 +36,7 @@ use Rattle.jt_syntax.specs.declared.frames.Move.TheVariants as m
 use Rattle.jt_syntax.specs.internal.Kinds.{kind_of}
 use Rattle.jt_syntax.specs.internal.Moves as moves
 use Rattle.jt_syntax.specs.internal.Moves.{frame, fresh, with_comparison}
-use Rattle.jt_syntax.specs.internal.States.{State, at, made, made_by, step, step_by, walk, start, is_complete, completes}
+use Rattle.jt_syntax.specs.internal.States.{State, at, made_by, step, walk, start, is_complete, completes}
 use Rattle.jt_syntax.specs.internal.States.{shut}
 use Rattle.jt_syntax.proofs.TokenKinds as kinds
 use Rattle.jt_syntax.proofs.TokenKinds.{IsOf, kind_view}
@@ -86,7 +87,8 @@ any_word A e f fs y to kinds.an_in v = word_then AnyName A (codes "in") y tt (to
 any_word A e f fs y to kinds.an_is v = word_then AnyName A (codes "is") y tt (to v)
 any_word A e f fs y to (kinds.a_sign j) v = absurd v
 
-colon_sign : (f : Frame) (fs : List Frame) (y : Tokens) (j : Sign) → FinishesNext (moves.next p.Colon f (k.Sign j)) f fs y
+colon_sign : (f : Frame) (fs : List Frame) (y : Tokens) (j : Sign)
+    → FinishesNext (moves.next p.Colon f (k.Sign j)) f fs y
     → FinishesAt p.Colon f fs (cut.sign j ∷ y)
 colon_sign f fs y s.Colon v = λ l. record { behind = y; is = refl; split = whole_of f fs y l v }
 colon_sign f fs y _ v = absurd v

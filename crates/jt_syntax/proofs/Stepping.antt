@@ -327,7 +327,8 @@ keyed_part q r t fs y k j rule v =
       right = c.right;
     }
 
-pub shut_part : (r : Row) (t : Follow) (fs : List Frame) (y : Tokens) → Held (kind_of_row r) (cut.sign (closer (kind_of_row r)) ∷ [])
+pub shut_part : (r : Row) (t : Follow) (fs : List Frame) (y : Tokens)
+    → Held (kind_of_row r) (cut.sign (closer (kind_of_row r)) ∷ [])
     → After t fs y → FinishesPart (b.Sequence r t) fs (cut.sign (closer (kind_of_row r)) ∷ y)
 shut_part r t fs y h a =
     record { first = cut.sign (closer (kind_of_row r)) ∷ []; rest = y; splits = refl; left = h; right = a }
@@ -355,7 +356,8 @@ argument_all : (t : Follow) (f : Frame) (fs : List Frame) (y : Tokens) → InSeq
 argument_all t f fs y h v = plain_part row.Arguments t fs y held_argument (whole_in row.Arguments t f fs y h v)
 
 item_sign : (t : Follow) (f : Frame) (fs : List Frame) (y : Tokens) → InSequence row.Items t f → (j : Sign)
-    → FinishesNext (moves.part row.Items f (k.Sign j)) f fs y → FinishesPart (b.Sequence row.Items t) fs (cut.sign j ∷ y)
+    → FinishesNext (moves.part row.Items f (k.Sign j)) f fs y
+    → FinishesPart (b.Sequence row.Items t) fs (cut.sign j ∷ y)
 item_sign t f fs y h s.RightBracket v = shut_part row.Items t fs y (no_exprs, closed) (after_in row.Items t f fs y h v)
 item_sign t f fs y h j v =
     item_all t f fs (cut.sign j ∷ y) h (all_of_signs f fs (cut.sign j ∷ y) (sign_operand f fs y j v))

@@ -1,6 +1,7 @@
 -- The kinds of words.
 use Rattle.std.proofs.Common.{◌≡◌, ℕ, ◌<◌, Bool, true, false, not, ◌||◌, cond, List, [], ◌∷◌, get_or, length}
-use Rattle.std.proofs.Common.{Option, ◌⊎◌, inl, inr, codes, refl, sym, ap, subst, ◌∙◌, arith, Some, None, bytes_eq, rules}
+use Rattle.std.proofs.Common.{Option, ◌⊎◌, inl, inr, codes, refl, sym, ap, subst, ◌∙◌, arith, Some, None, bytes_eq}
+use Rattle.std.proofs.Common.{rules}
 use Rattle.std.specs.List.{list_any}
 use Rattle.std.proofs.lemmas.List.Folds.{list_any_at}
 use Rattle.std.proofs.lemmas.Slice.Eq.{bytes_eq-Decides}

@@ -1,7 +1,12 @@
 -- The tokens that begin an expression, and the first token at which none goes on.
-use Rattle.std.specs.Prelude.{ℕ, suc, ◌≤◌, ◌<◌, ◌++◌, length, take, Option, Some, None}
+use Rattle.std.specs.Prelude.{ℕ, ℤ, suc, ◌≤◌, ◌<◌, Bool, true, false, [], ◌∷◌, ◌++◌, length, take, Option, Some, None}
+use Rattle.jt_scan.specs.declared.segment.Sign.{Sign}
+use Rattle.jt_scan.specs.declared.segment.Sign.TheVariants as s
+use Rattle.jt_scan.specs.Cut as cut
+use Rattle.jt_scan.specs.Cut.{Token}
 use Rattle.jt_ast.specs.Expressions.{Expr}
 use Rattle.jt_expr.specs.Grammar.{Tokens, Spells, whole}
+use Rattle.jt_syntax.specs.declared.wanted.Wanted.{Wanted}
 
 -- The tokens spell an expression.
 abbrev pub Spelled : Tokens → Type 0
@@ -23,3 +28,29 @@ pub record Stuck (tokens : Tokens) (position : ℕ) : Type 0 where
 abbrev pub Reports : Tokens → Option ℕ → Type 0
 Reports tokens None = Spelled tokens
 Reports tokens (Some position) = Stuck tokens position
+
+-- The tokens with one more token behind them begin an expression, or they begin none.
+abbrev pub Allows : Tokens → Token → Bool → Type 0
+Allows tokens t true = Begins (tokens ++ (t ∷ []))
+Allows tokens t false = Begins (tokens ++ (t ∷ [])) → ⊥
+
+-- The closing sign that may stand behind the tokens, or no closing sign may.
+abbrev pub AllowsCloser : Tokens → Option Sign → Type 0
+AllowsCloser tokens (Some j) = Begins (tokens ++ (cut.sign j ∷ []))
+AllowsCloser tokens None =
+    Allows tokens (cut.sign s.RightParen) false
+    × Allows tokens (cut.sign s.RightBracket) false
+    × Allows tokens (cut.sign s.RightBrace) false
+
+-- What may stand behind the tokens.
+pub record Wants (tokens : Tokens) (w : Wanted) : Type 0 where
+  pub begins : Begins tokens
+  pub operand : (n : ℤ) → Allows tokens (cut.number n) w.operand
+  pub operator : Allows tokens (cut.sign s.Tilde) w.operator
+  pub comma : Allows tokens (cut.sign s.Comma) w.comma
+  pub closer : AllowsCloser tokens w.closer
+
+-- The report of what may stand behind the tokens, or that they begin no expression.
+abbrev pub ReportsWanted : Tokens → Option Wanted → Type 0
+ReportsWanted tokens None = Begins tokens → ⊥
+ReportsWanted tokens (Some w) = Wants tokens w

@@ -3,7 +3,8 @@
 //! - `kinds`: what a token is to the grammar;
 //! - `frames`: the open brackets, and the place in the innermost one;
 //! - `moves`: the place behind a token, if the token may stand there;
-//! - `prefix`: the places of a list of tokens, and the token at which it gets stuck.
+//! - `prefix`: the places of a list of tokens, and the token at which it gets stuck;
+//! - `wanted`: what may stand behind tokens.
 //!
 //! It builds no trees. Read first: specs/Prefixes.antt, then moves.rt.
 #![tactic(auto)]
@@ -12,5 +13,7 @@ mod frames;
 mod kinds;
 mod moves;
 mod prefix;
+mod wanted;
 
 pub use prefix::stuck_at;
+pub use wanted::{Wanted, wanted_behind};

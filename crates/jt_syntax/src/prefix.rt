@@ -1,6 +1,7 @@
 //! Follows the tokens of an expression from place to place.
 
 ghost use Rattle.std.specs.Prelude.{◌≡◌, IfOk, map};
+ghost use Rattle.std.specs.Option.{is_some};
 ghost use Rattle.jt_scan.specs.View.{token_view};
 ghost use Rattle.jt_syntax.specs.Prefixes.{Reports};
 ghost use Rattle.jt_syntax.specs.internal.States as spec;
@@ -8,7 +9,8 @@ ghost use Rattle.jt_syntax.specs.internal.States as spec;
 use crate::frames::{Bracket, Ending, Frame, Move, Place, Prefixes};
 use crate::kinds::{Kind, kind_of};
 use crate::moves::{closed, next};
-use jt_scan::Token;
+use crate::wanted::Wanted;
+use jt_scan::{Sign, Token};
 use std::alloc::{AllocError, Global};
 
 /// Whether a token may stand at its place.
@@ -30,7 +32,7 @@ pub struct Prefix {
 
 impl Prefix {
     /// Returns the place of the first token.
-    fn start(alloc: Global) -> Prefix
+    pub(crate) fn start(alloc: Global) -> Prefix
         ensures { spec.view result ≡ spec.start }
     {
         Prefix {
@@ -42,7 +44,8 @@ impl Prefix {
 
     /// Makes a move.
     fn make(&mut self, step: Move) -> Result<Standing, AllocError>
-        ensures { IfOk result (spec.Makes (spec.made step (spec.view self.old)) (spec.view self.new)) }
+        ensures { IfOk result (spec.Makes (spec.made step (spec.view self.old))
+            (spec.view self.new)) }
     {
         match step {
             Move::To(place, frame) => {
@@ -66,12 +69,51 @@ impl Prefix {
     }
 
     /// Takes a token of the kind, if it may stand at the place.
-    fn take(&mut self, kind: Kind) -> Result<Standing, AllocError>
-        ensures { IfOk result (spec.Makes (spec.step (spec.view self.old) kind) (spec.view self.new)) }
+    pub(crate) fn take(&mut self, kind: Kind) -> Result<Standing, AllocError>
+        ensures { IfOk result (spec.Makes (spec.step (spec.view self.old) kind)
+            (spec.view self.new)) }
     {
         match next(self.place, self.frame, kind) {
             Some(step) => self.make(step),
             None => Ok(Standing::Stuck),
+        }
+    }
+
+    /// Returns whether a token of the kind may stand at the place.
+    fn allows(&self, kind: Kind) -> bool
+        ensures { result ≡ is_some (spec.step (spec.view self.now) kind) }
+    {
+        match next(self.place, self.frame, kind) {
+            Some(Move::Closes) => !self.outer.is_empty(),
+            Some(Move::To(..) | Move::Opens(..)) => true,
+            None => false,
+        }
+    }
+
+    /// Returns the closing sign that may stand at the place, if one may.
+    fn closer(&self) -> Option<Sign>
+        ensures { result ≡ spec.closer_at (spec.view self.now) }
+    {
+        if self.allows(Kind::Sign(Sign::RightParen)) {
+            Some(Sign::RightParen)
+        } else if self.allows(Kind::Sign(Sign::RightBracket)) {
+            Some(Sign::RightBracket)
+        } else if self.allows(Kind::Sign(Sign::RightBrace)) {
+            Some(Sign::RightBrace)
+        } else {
+            None
+        }
+    }
+
+    /// Returns what may stand at the place.
+    pub(crate) fn wanted(&self) -> Wanted
+        ensures { result ≡ spec.wanted (spec.view self.now) }
+    {
+        Wanted {
+            operand: self.allows(Kind::Number),
+            operator: self.allows(Kind::Sign(Sign::Tilde)),
+            comma: self.allows(Kind::Sign(Sign::Comma)),
+            closer: self.closer(),
         }
     }
 

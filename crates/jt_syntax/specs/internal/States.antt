@@ -1,8 +1,13 @@
 -- The open brackets behind tokens, and the steps from token to token. Only private clauses cite this
 -- module.
-use Rattle.std.specs.Prelude.{◌≡◌, Bool, true, false, List, [], ◌∷◌, reverse, Option, Some, None}
+use Rattle.std.specs.Prelude.{◌≡◌, Bool, true, false, List, [], ◌∷◌, reverse, Option, Some, None, if◌then◌else◌}
+use Rattle.std.specs.Option.{is_some}
+use Rattle.jt_scan.specs.declared.segment.Sign.{Sign}
+use Rattle.jt_scan.specs.declared.segment.Sign.TheVariants as s
 use Rattle.jt_expr.specs.Grammar.{Tokens}
 use Rattle.jt_syntax.specs.declared.kinds.Kind.{Kind}
+use Rattle.jt_syntax.specs.declared.kinds.Kind.TheVariants as k
+use Rattle.jt_syntax.specs.declared.wanted.Wanted.{Wanted}
 use Rattle.jt_syntax.specs.declared.frames.Bracket.{Bracket}
 use Rattle.jt_syntax.specs.declared.frames.Bracket.TheVariants as b
 use Rattle.jt_syntax.specs.declared.frames.Frame.{Frame}
@@ -65,3 +70,19 @@ view x = at x.place x.frame (reverse x.outer.items)
 abbrev pub Makes : Option State → State → Standing → Type 0
 Makes found new standing.Fits = found ≡ Some new
 Makes found new standing.Stuck = found ≡ None
+
+-- The closing sign that may stand at the state, if one may.
+abbrev pub closer_at : State → Option Sign
+closer_at x =
+    if is_some (step x (k.Sign s.RightParen)) then Some s.RightParen
+    else if is_some (step x (k.Sign s.RightBracket)) then Some s.RightBracket
+    else if is_some (step x (k.Sign s.RightBrace)) then Some s.RightBrace
+    else None
+
+abbrev pub wanted : State → Wanted
+wanted x = record {
+  operand = is_some (step x k.Number);
+  operator = is_some (step x (k.Sign s.Tilde));
+  comma = is_some (step x (k.Sign s.Comma));
+  closer = closer_at x;
+}
