@@ -6,8 +6,7 @@ use Rattle.jt_scan.specs.Cut as cut
 use Rattle.jt_scan.specs.declared.segment.Sign.{Sign}
 use Rattle.jt_scan.specs.declared.segment.Sign.TheVariants as s
 use Rattle.jt_ast.specs.declared.expression.BinaryOperator.{BinaryOperator}
-use Rattle.jt_ast.specs.declared.expression.BinaryOperator.TheVariants as o
-use Rattle.jt_ast.specs.Expressions.{Text, Expr, Exprs, Pairs}
+use Rattle.jt_ast.specs.Expressions.{Text, Expr}
 use Rattle.jt_expr.specs.Grammar.{Tokens, word, is_reserved, literal_of, names_test, Level, whole, disjunction}
 use Rattle.jt_expr.specs.Grammar.{conjunction, inversion, comparison, sum, concatenation, product, power, postscript}
 use Rattle.jt_expr.specs.Grammar.{signed, postfix, next, is_chain, level_of, operator_tokens, is_tokens}
@@ -36,11 +35,11 @@ use Rattle.jt_syntax.specs.declared.frames.Place.TheVariants as p
 use Rattle.jt_syntax.specs.declared.kinds.Kind.{Kind}
 use Rattle.jt_syntax.specs.declared.kinds.Kind.TheVariants as k
 use Rattle.jt_syntax.specs.declared.frames.Move.TheVariants as m
-use Rattle.jt_syntax.specs.internal.Kinds.{kind_of, word_kind, is_word}
+use Rattle.jt_syntax.specs.internal.Kinds.{word_kind, is_word}
 use Rattle.jt_syntax.specs.internal.Moves.{frame, fresh, follows, named}
 use Rattle.jt_syntax.specs.internal.Moves as moves
 use Rattle.jt_syntax.specs.internal.States.{State, at, walk, step, made_by, start}
-use Rattle.jt_syntax.proofs.Covering.{Walks, arrived, then, carried, covers, covers_trans}
+use Rattle.jt_syntax.proofs.Covering.{Walks, arrived, then, covers, covers_trans}
 use Rattle.jt_syntax.proofs.Words.{name_kind, constant_kind, word_is_word, operand_kind, not_kind}
 
 -- ---- what is to be proved

@@ -1,12 +1,9 @@
 -- A place that covers another one takes all tokens that the other one takes.
 use Rattle.std.proofs.Common.{◌≡◌, Bool, true, false, List, [], ◌∷◌, ◌++◌, refl, sym, ap, subst, ◌∙◌, arith, Option}
 use Rattle.std.proofs.Common.{Some, None, rules, ◌⊎◌, inl, inr}
-use Rattle.jt_scan.specs.Cut as cut
 use Rattle.jt_scan.specs.Cut.{Token}
-use Rattle.jt_scan.specs.declared.segment.Sign.TheVariants as s
 use Rattle.jt_expr.specs.Grammar.{Tokens}
 use Rattle.jt_syntax.specs.declared.kinds.Kind.{Kind}
-use Rattle.jt_syntax.specs.declared.kinds.Kind.TheVariants as k
 use Rattle.jt_syntax.specs.declared.frames.Row.TheVariants as row
 use Rattle.jt_syntax.specs.declared.frames.Bracket.{Bracket}
 use Rattle.jt_syntax.specs.declared.frames.Bracket.TheVariants as b
@@ -22,8 +19,8 @@ use Rattle.jt_syntax.specs.declared.frames.Place.TheVariants as p
 use Rattle.jt_syntax.specs.declared.frames.Move.{Move}
 use Rattle.jt_syntax.specs.declared.frames.Move.TheVariants as m
 use Rattle.jt_syntax.specs.internal.Kinds.{kind_of}
-use Rattle.jt_syntax.specs.internal.Moves.{next, frame, operand, onward, postfix, behind, part}
-use Rattle.jt_syntax.specs.internal.States.{State, at, made, made_by, step, step_by, walk}
+use Rattle.jt_syntax.specs.internal.Moves.{next, frame, operand, behind, part}
+use Rattle.jt_syntax.specs.internal.States.{State, at, made, made_by, step_by, walk}
 
 -- The place takes the tokens of an operand with these prefixes.
 abbrev pub begins : Bracket → Prefixes → Place → Bool

@@ -1,32 +1,28 @@
 -- The tokens that finish an expression behind a state, by the grammar: each step of the machine is one
 -- of their tokens, and each state has some.
-use Rattle.std.proofs.Common.{◌≡◌, Bool, true, false, List, [], ◌∷◌, ◌++◌, codes, refl, sym, ap, subst, ◌∙◌, arith}
-use Rattle.std.proofs.Common.{Option, Some, None, rules, ◌⊎◌, inl, inr, append_assoc, encode_utf8_all}
+use Rattle.std.proofs.Common.{◌≡◌, Bool, true, false, List, [], ◌∷◌, ◌++◌, codes, refl, sym, ap, subst, ◌∙◌}
+use Rattle.std.proofs.Common.{◌⊎◌, append_assoc}
 use Rattle.std.proofs.lemmas.List.{append-nil}
 use Rattle.jt_scan.specs.Cut as cut
 use Rattle.jt_scan.specs.declared.segment.Sign.{Sign}
 use Rattle.jt_scan.specs.declared.segment.Sign.TheVariants as s
 use Rattle.jt_ast.specs.declared.expression.BinaryOperator.{BinaryOperator}
-use Rattle.jt_ast.specs.declared.expression.UnaryOperator.TheVariants as u
 use Rattle.jt_ast.specs.Expressions as trees
 use Rattle.jt_ast.specs.Expressions.{Text, Expr, Exprs, no_exprs, Pairs, no_pairs, binary}
 use Rattle.jt_expr.specs.Grammar.{Tokens, word, is_reserved, names_test, Level, whole, disjunction}
 use Rattle.jt_expr.specs.Grammar.{conjunction, inversion, comparison, sum, concatenation, product, power, postscript}
-use Rattle.jt_expr.specs.Grammar.{signed, postfix, next, is_chain, level_of, operator_tokens, is_tokens}
-use Rattle.jt_expr.specs.Grammar.{begins_argument, SequenceKind, items, entries, arguments, keywords, closer}
-use Rattle.jt_expr.specs.Grammar.{LeveledList, no_parts, Spells, plain, an_if}
-use Rattle.jt_expr.specs.Grammar.{an_if_else, chain, inverted, upright, compared, alone, postscripts, minus, plus}
-use Rattle.jt_expr.specs.Grammar.{unsigned, postfixes, Goes, stay, operated, filtered, tested, attributed, indexed}
-use Rattle.jt_expr.specs.Grammar.{called, Primary, a_number, a_text, a_constant, a_name, a_group, a_list, a_map}
-use Rattle.jt_expr.specs.Grammar.{Arguments, without, within, TestArguments, as_filter, bare, Holds, closed, last}
-use Rattle.jt_expr.specs.Grammar.{more, IsPart, without_key, an_entry, by_name}
+use Rattle.jt_expr.specs.Grammar.{signed, postfix, next, level_of, operator_tokens}
+use Rattle.jt_expr.specs.Grammar.{SequenceKind, items, entries, arguments, keywords, closer}
+use Rattle.jt_expr.specs.Grammar.{LeveledList, Spells, plain, an_if}
+use Rattle.jt_expr.specs.Grammar.{an_if_else, chain, upright, compared, alone, postscripts}
+use Rattle.jt_expr.specs.Grammar.{Goes, stay}
+use Rattle.jt_expr.specs.Grammar.{Arguments, TestArguments, Holds}
 use Rattle.jt_syntax.specs.declared.frames.Row.{Row}
 use Rattle.jt_syntax.specs.declared.frames.Row.TheVariants as row
 use Rattle.jt_syntax.specs.declared.frames.Follow.{Follow}
 use Rattle.jt_syntax.specs.declared.frames.Follow.TheVariants as follow
 use Rattle.jt_syntax.specs.declared.frames.Bracket.{Bracket}
 use Rattle.jt_syntax.specs.declared.frames.Bracket.TheVariants as b
-use Rattle.jt_syntax.specs.declared.frames.Clause.{Clause}
 use Rattle.jt_syntax.specs.declared.frames.Clause.TheVariants as clause
 use Rattle.jt_syntax.specs.declared.frames.Comparison.{Comparison}
 use Rattle.jt_syntax.specs.declared.frames.Comparison.TheVariants as comparison_is

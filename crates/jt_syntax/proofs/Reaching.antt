@@ -1,9 +1,9 @@
 -- Each state that tokens lead to has tokens that finish it, so these tokens begin an expression. Tokens
 -- that lead to no state begin none.
-use Rattle.std.proofs.Common.{◌≡◌, ℕ, suc, ◌<◌, Bool, true, false, not, List, [], ◌∷◌, ◌++◌, codes, refl, sym, ap}
+use Rattle.std.proofs.Common.{◌≡◌, Bool, true, false, not, List, [], ◌∷◌, ◌++◌, codes, refl, sym, ap}
 use Rattle.std.proofs.Common.{subst}
-use Rattle.std.proofs.Common.{◌∙◌, arith, Option, Some, None, rules, ◌⊎◌, inl, inr, append_assoc, encode_utf8_all}
-use Rattle.std.proofs.Common.{bytes_eq, take, length}
+use Rattle.std.proofs.Common.{◌∙◌, Option, Some, None, inl, inr, encode_utf8_all}
+use Rattle.std.proofs.Common.{bytes_eq}
 use Rattle.std.proofs.lemmas.List.{append-nil}
 use Rattle.std.proofs.lemmas.Slice.Eq.{bytes_eq-Decides}
 use Rattle.jt_scan.specs.Cut as cut
@@ -12,8 +12,8 @@ use Rattle.jt_scan.specs.declared.segment.Sign.{Sign}
 use Rattle.jt_scan.specs.declared.segment.Sign.TheVariants as s
 use Rattle.jt_ast.specs.Expressions as trees
 use Rattle.jt_ast.specs.Expressions.{Text, Literal, Expr, no_exprs, no_pairs}
-use Rattle.jt_expr.specs.Grammar.{Tokens, word, is_reserved, literal_of, names_test, Level, whole, conjunction, postfix}
-use Rattle.jt_expr.specs.Grammar.{postscript, signed, sum, closer, no_parts, Spells, a_text, closed}
+use Rattle.jt_expr.specs.Grammar.{Tokens, word, is_reserved, literal_of, whole, postfix}
+use Rattle.jt_expr.specs.Grammar.{postscript, signed, closer, no_parts, Spells, a_text, closed}
 use Rattle.jt_syntax.specs.Prefixes.{Spelled, Begins}
 use Rattle.jt_syntax.specs.declared.kinds.Kind.{Kind}
 use Rattle.jt_syntax.specs.declared.kinds.Kind.TheVariants as k
@@ -23,7 +23,6 @@ use Rattle.jt_syntax.specs.declared.frames.Follow.{Follow}
 use Rattle.jt_syntax.specs.declared.frames.Follow.TheVariants as follow
 use Rattle.jt_syntax.specs.declared.frames.Bracket.{Bracket}
 use Rattle.jt_syntax.specs.declared.frames.Bracket.TheVariants as b
-use Rattle.jt_syntax.specs.declared.frames.Clause.TheVariants as clause
 use Rattle.jt_syntax.specs.declared.frames.Comparison.TheVariants as comparison_is
 use Rattle.jt_syntax.specs.declared.frames.Frame.{Frame}
 use Rattle.jt_syntax.specs.declared.frames.Prefixes.TheVariants as prefixes
@@ -40,7 +39,7 @@ use Rattle.jt_syntax.specs.internal.States.{State, at, made_by, step, walk, star
 use Rattle.jt_syntax.specs.internal.States.{shut}
 use Rattle.jt_syntax.proofs.TokenKinds as kinds
 use Rattle.jt_syntax.proofs.TokenKinds.{IsOf, kind_view}
-use Rattle.jt_syntax.proofs.Covering.{walk_none, walk_append, covers, ends}
+use Rattle.jt_syntax.proofs.Covering.{walk_none, walk_append, ends}
 use Rattle.jt_syntax.proofs.Advancing.{spelled_leads}
 use Rattle.jt_syntax.proofs.Finishing as finishing
 use Rattle.jt_syntax.proofs.Finishing.{Split, Form, Held, Behind, kind_of_row, Rest, Closes, group, an_item, parts}

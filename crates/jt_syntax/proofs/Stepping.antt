@@ -1,6 +1,6 @@
 -- What finishes a state behind a token, with the token before it, finishes the state before the token.
-use Rattle.std.proofs.Common.{◌≡◌, Bool, true, false, List, [], ◌∷◌, ◌++◌, codes, refl, sym, ap, subst, ◌∙◌, arith}
-use Rattle.std.proofs.Common.{Option, Some, None, rules, ◌⊎◌, inl, inr, append_assoc, encode_utf8_all, if◌then◌else◌}
+use Rattle.std.proofs.Common.{◌≡◌, Bool, true, false, List, [], ◌∷◌, ◌++◌, codes, refl, sym, ap, subst, ◌∙◌}
+use Rattle.std.proofs.Common.{Option, Some, None, ◌⊎◌, inl, inr, append_assoc, encode_utf8_all, if◌then◌else◌}
 use Rattle.jt_scan.specs.Cut as cut
 use Rattle.jt_scan.specs.Cut.{Token}
 use Rattle.jt_scan.specs.declared.segment.Sign.{Sign}
@@ -11,13 +11,13 @@ use Rattle.jt_ast.specs.declared.expression.UnaryOperator.TheVariants as u
 use Rattle.jt_ast.specs.Expressions as trees
 use Rattle.jt_ast.specs.Expressions.{Text, Expr, Exprs, no_exprs, Pairs, no_pairs, binary}
 use Rattle.jt_expr.specs.Grammar.{Tokens, word, is_reserved, names_test, Level, whole, disjunction}
-use Rattle.jt_expr.specs.Grammar.{conjunction, inversion, comparison, sum, concatenation, product, power, postscript}
-use Rattle.jt_expr.specs.Grammar.{signed, postfix, next, is_chain, level_of, operator_tokens, is_tokens, is_operand}
+use Rattle.jt_expr.specs.Grammar.{conjunction, comparison, sum, concatenation, product, power, postscript}
+use Rattle.jt_expr.specs.Grammar.{signed, postfix, next, is_chain, level_of, operator_tokens, is_tokens}
 use Rattle.jt_expr.specs.Grammar.{begins_argument, SequenceKind, items, entries, arguments, keywords, closer}
-use Rattle.jt_expr.specs.Grammar.{LeveledList, no_parts, put, Spells, inverted, minus, plus, unsigned, postfixes, Goes}
-use Rattle.jt_expr.specs.Grammar.{stay, operated, filtered, tested, attributed, indexed, called, Primary, a_number}
-use Rattle.jt_expr.specs.Grammar.{a_text, a_constant, a_name, a_group, a_list, a_map, Arguments, without, within}
-use Rattle.jt_expr.specs.Grammar.{TestArguments, as_filter, bare, Holds, closed, last, more, IsPart, without_key}
+use Rattle.jt_expr.specs.Grammar.{no_parts, put, Spells, inverted, minus, plus, unsigned, postfixes, Goes}
+use Rattle.jt_expr.specs.Grammar.{operated, filtered, tested, attributed, indexed, called, Primary, a_number}
+use Rattle.jt_expr.specs.Grammar.{a_text, a_constant, a_name, a_group, a_list, a_map, without, within}
+use Rattle.jt_expr.specs.Grammar.{as_filter, bare, closed, last, more, without_key}
 use Rattle.jt_expr.specs.Grammar.{an_entry, by_name}
 use Rattle.jt_syntax.specs.declared.kinds.Kind.{Kind}
 use Rattle.jt_syntax.specs.declared.kinds.Kind.TheVariants as k
@@ -33,26 +33,22 @@ use Rattle.jt_syntax.specs.declared.frames.Comparison.{Comparison}
 use Rattle.jt_syntax.specs.declared.frames.Comparison.TheVariants as comparison_is
 use Rattle.jt_syntax.specs.declared.frames.Frame.{Frame}
 use Rattle.jt_syntax.specs.declared.frames.Prefixes.TheVariants as prefixes
-use Rattle.jt_syntax.specs.declared.frames.Ending.{Ending}
 use Rattle.jt_syntax.specs.declared.frames.Ending.TheVariants as ending
-use Rattle.jt_syntax.specs.declared.frames.Place.{Place}
 use Rattle.jt_syntax.specs.declared.frames.Place.TheVariants as p
 use Rattle.jt_syntax.specs.declared.frames.Move.{Move}
 use Rattle.jt_syntax.specs.declared.frames.Move.TheVariants as m
-use Rattle.jt_syntax.specs.internal.Kinds.{kind_of}
 use Rattle.jt_syntax.specs.internal.Moves as moves
 use Rattle.jt_syntax.specs.internal.Moves.{frame, fresh, with_comparison}
-use Rattle.jt_syntax.specs.internal.States.{State, at, made, made_by, step}
 use Rattle.jt_syntax.proofs.TokenKinds as kinds
 use Rattle.jt_syntax.proofs.TokenKinds.{IsOf, kind_view}
 use Rattle.jt_syntax.proofs.Words.{name_is_operand, literal_is_operand}
-use Rattle.jt_syntax.proofs.Finishing.{Split, Form, Extends, Held, Given, TestGiven, Behind, closes, goes_on, up}
-use Rattle.jt_syntax.proofs.Finishing.{is_extended, level_behind, kind_of_row, Rest, climbs, single, pair, condition}
-use Rattle.jt_syntax.proofs.Finishing.{other, ends, Closes, group, an_item, parts, After, nothing, around, Operand}
-use Rattle.jt_syntax.proofs.Finishing.{SignWhole, FinishesPart, FinishesKey, WordThen, NotThen, InThen, FinishesBehind}
-use Rattle.jt_syntax.proofs.Finishing.{FinishesAt, Finishes, lift, climbed, regroup, to_postscript, to_power}
+use Rattle.jt_syntax.proofs.Finishing.{Split, Form, Extends, Held, Given, TestGiven, Behind, closes, goes_on}
+use Rattle.jt_syntax.proofs.Finishing.{is_extended, kind_of_row, Rest, climbs, single, pair, condition}
+use Rattle.jt_syntax.proofs.Finishing.{other, ends, Closes, group, an_item, parts, After, around, Operand}
+use Rattle.jt_syntax.proofs.Finishing.{SignWhole, FinishesPart, FinishesKey, InThen, FinishesBehind}
+use Rattle.jt_syntax.proofs.Finishing.{FinishesAt, lift, climbed, regroup, to_postscript, to_power}
 use Rattle.jt_syntax.proofs.Finishing.{to_product, to_concatenation, to_sum, to_conjunction, all_of_signs}
-use Rattle.jt_syntax.proofs.Finishing.{disjunction_of, whole_of, at_end}
+use Rattle.jt_syntax.proofs.Finishing.{disjunction_of, whole_of}
 
 abbrev pub follow_of : Bracket → Follow
 follow_of (b.Sequence r t) = t

@@ -1,5 +1,5 @@
 -- The kinds of words.
-use Rattle.std.proofs.Common.{◌≡◌, ℕ, ◌<◌, Bool, true, false, not, ◌||◌, cond, List, [], ◌∷◌, get_or, length}
+use Rattle.std.proofs.Common.{◌≡◌, ℕ, ◌<◌, Bool, true, false, not, ◌||◌, cond, List, [], get_or, length}
 use Rattle.std.proofs.Common.{Option, ◌⊎◌, inl, inr, codes, refl, sym, ap, subst, ◌∙◌, arith, Some, None, bytes_eq}
 use Rattle.std.proofs.Common.{rules}
 use Rattle.std.specs.List.{list_any}
@@ -7,7 +7,6 @@ use Rattle.std.proofs.lemmas.List.Folds.{list_any_at}
 use Rattle.std.proofs.lemmas.Slice.Eq.{bytes_eq-Decides}
 use Rattle.jt_ast.specs.Expressions.{Text, Literal}
 use Rattle.jt_expr.specs.Grammar.{reserved, is_reserved, literal_of, is_literal, is_operand}
-use Rattle.jt_syntax.specs.declared.kinds.Kind.{Kind}
 use Rattle.jt_syntax.specs.declared.kinds.Kind.TheVariants as k
 use Rattle.jt_syntax.specs.internal.Kinds.{word_kind, is_word}
 

@@ -1,5 +1,5 @@
-use Rattle.std.proofs.Common.{◌≡◌, map, ℕ, suc, ◌<◌, ◌≤◌, length, true, false, Some, None, take, get_or, subst, sym, ap}
-use Rattle.std.proofs.Common.{◌∙◌, arith, add-one, rules}
+use Rattle.std.proofs.Common.{◌≡◌, map, suc, ◌<◌, ◌≤◌, length, Some, None, take, subst, sym, ap}
+use Rattle.std.proofs.Common.{◌∙◌, arith, add-one}
 use Rattle.std.proofs.lemmas.List.{length-map, take_all}
 use Rattle.jt_scan.specs.View.{token_view}
 use Rattle.jt_syntax.specs.Prefixes.{Reports, Stuck}

@@ -1,4 +1,4 @@
-use Rattle.std.proofs.Common.{◌≡◌, map, suc, ◌≤◌, length, Some, None, take, subst, sym, ap, ◌∙◌, arith, add-one, rules}
+use Rattle.std.proofs.Common.{◌≡◌, map, suc, ◌≤◌, length, Some, None, take, subst, sym, ap, ◌∙◌, arith, add-one}
 use Rattle.std.proofs.lemmas.List.{length-map, take_all}
 use Rattle.jt_scan.specs.View.{token_view}
 use Rattle.jt_syntax.specs.Prefixes.{Wants}
