@@ -35,7 +35,8 @@ invariant_of-self-in-Going c =
     cc (c.image-image.ensures.image, c.deref.ensures) in
     let room = room_of c.self.inside.used c.self.inside.stage c.in-Going.state goes c.self.invariant.2 in
     let used = c.and-self-inside.ensures
-    ∙ ap (λ (u : Used). together c.self.inside.used u) c.in_ok-slice-in-Going.ensures.used in (
+    ∙ ap (λ (u : Used). together c.self.inside.used u) c.in_ok-slice-in-Going.ensures.used
+    ∙ rw c.peak.ensures (once c.self.inside.used _) in (
       subst (λ (k : Code). IsUnderway k c.in_ok-slice-in-Going.slice.stage) is c.in_ok-slice-in-Going.ensures.underway,
       subst (λ (k : Code). AreCached k c.take_slice.new.made.items) is c.in_ok-slice-in-Going.ensures.made,
       rw used (room_after c.image-image.result.now c.args.k c.self.inside.used c.in-Going.state
