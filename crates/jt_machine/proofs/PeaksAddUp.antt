@@ -11,13 +11,17 @@ use Rattle.jt_value.specs.Tree as tree
 use Rattle.jt_machine.specs.declared.metered_run.Used.{Used}
 use Rattle.jt_machine.specs.declared.peaks.Peak.{Peak}
 use Rattle.jt_machine.specs.MeterRoom.{HasRoom}
-use Rattle.jt_machine.specs.Metering.{named_values, next_demand, start_use, used_within, with_found}
+use Rattle.jt_machine.specs.Metering.{named_values, next_demand, nothing_used, start_use, used_within, with_found}
 use Rattle.jt_machine.specs.internal.Peaks.{HasRunBelow, no_peak, pushed_there, risen}
+use Rattle.jt_machine.specs.internal.Peaks.{has_result, has_result_at, pushed_at, pushed_of, result_in}
+use Rattle.jt_machine.proofs.Vocabulary.{Instruction, Section, instruction_at, option_and_then}
+use Rattle.std.specs.Prelude.{not, ◌==◌}
+use Rattle.std.proofs.Common.{zero, suc}
 use Rattle.jt_machine.proofs.LimitsRaised.{kept_within, step_within}
 use Rattle.jt_machine.proofs.MeteredSlices.{IsPeak}
 use Rattle.jt_machine.proofs.PushedMeasured.{step_measured}
 use Rattle.jt_machine.proofs.StepLemmas.{drop_get, within}
-use Rattle.jt_machine.proofs.UseAddsUp.{used_on}
+use Rattle.jt_machine.proofs.UseAddsUp.{same_used, used_on}
 
 abbrev peak_with : ℕ → ℕ → Peak
 peak_with s n = record { size = s; nesting = n }
@@ -181,3 +185,49 @@ start_room b x ns u s none e is f o =
       size = omega (arith, ap (λ (v : Used). v.size) is, ap (λ (c : Budget). c.size) e, w.0);
       nesting = omega (arith, ap (λ (v : Used). v.nesting) is, ap (λ (c : Budget). c.nesting) e, w.1);
     }
+
+-- The next name has passed the tests, and so have the names after it.
+pub name_passed : (b : Budget) (x : Pairs) (ns : List Name) (i : ℕ) (n : Name) → Some n ≡ slice_get ns i
+    → passed b x (drop i ns) ≡ None → (limit_of_named b (look n.text x) ≡ None) × (passed b x (drop (i + 1) ns) ≡ None)
+name_passed b x ns i n is e =
+    let d = drop_get ns i n is in
+    let f : first_of (limit_of_named b (look n.text x)) (passed b x (drop (i + 1) ns)) ≡ None = rw d at e in
+    first_both _ _ f
+
+pub risen_none : (p : Peak) → p ≡ risen p []
+risen_none p = same_peak _ _ (omega arith) (omega arith)
+
+pub risen_by : (p q : Peak) (ts us : List Tree) → q.size ≡ max p.size (greatest tree.size ts)
+    → q.nesting ≡ max p.nesting (greatest tree.nesting ts) → ts ≡ us → q ≡ risen p us
+risen_by p q ts us h i e = rw (← e) (same_peak _ _ h i)
+
+-- The use before the first step.
+pub start_used : (l : Option config.Limit) (ts : List Tree) (p : Peak) → None ≡ l → p ≡ risen no_peak ts
+    → record nothing_used { size = p.size; nesting = p.nesting } ≡ start_use l ts
+start_used l ts p e is =
+    rw (← e) (same_used _ _ refl refl refl (omega (arith, ap (λ (x : Peak). x.size) is))
+    (omega (arith, ap (λ (x : Peak). x.nesting) is)))
+
+-- ---- the number of values that an instruction pushes
+
+pub kind_is : (n : ℕ) → has_result n ≡ not (n == 0)
+kind_is zero = refl
+kind_is (suc n) = grind (arith, nat_tests)
+
+pub pushed_some : (k : Code) (n p : ℕ) (i : Instruction) → Some i ≡ instruction_at k n p
+    → pushed_of (has_result_at k n) i ≡ pushed_there k n p
+pushed_some k n p i e = along (slice_get k.units n) e
+  where
+    along : (o : Option Section) → Some i ≡ option_and_then (λ u. slice_get u.code p) o
+        → pushed_of (result_in o) i
+        ≡ pushed_at (option_and_then (λ u. option_and_then (λ i. Some (u, i)) (slice_get u.code p)) o)
+    along None e = absurd cc
+    along (Some u) e = rw (← e) refl
+
+pub pushed_none : (k : Code) (n p : ℕ) → None ≡ instruction_at k n p → 0 ≡ pushed_there k n p
+pushed_none k n p e = along (slice_get k.units n) e
+  where
+    along : (o : Option Section) → None ≡ option_and_then (λ u. slice_get u.code p) o
+        → 0 ≡ pushed_at (option_and_then (λ u. option_and_then (λ i. Some (u, i)) (slice_get u.code p)) o)
+    along None e = refl
+    along (Some u) e = rw (← e) refl

@@ -1,5 +1,5 @@
 //! Finds the greatest size and nesting of the values that a run tests against its budget.
-ghost use Rattle.std.specs.Prelude.{◌≡◌, ◌<◌, ◌≤◌, ◌^◌, IfSome, None};
+ghost use Rattle.std.specs.Prelude.{◌≡◌, ◌<◌, ◌≤◌, ◌^◌, ◌∷◌, [], IfSome, None};
 ghost use Rattle.jt_value.specs.Tree.{size as tree_size, nesting as tree_nesting};
 ghost use Rattle.jt_value.specs.View.{view};
 ghost use Rattle.jt_value.specs.Pairs.{look};
@@ -14,7 +14,7 @@ ghost use Rattle.jt_machine.specs.InstructionSteps as part;
 ghost use Rattle.jt_machine.specs.Metering.{named_values, with_found};
 ghost use Rattle.jt_machine.specs.View.{budget_view, HasValues};
 ghost use Rattle.jt_machine.specs.internal.Peaks.{HasRunBelow, pushed_there, pushed_of, no_peak};
-ghost use Rattle.jt_machine.specs.internal.Peaks.{risen};
+ghost use Rattle.jt_machine.specs.internal.Peaks.{has_result_at, risen};
 
 use crate::entries::StackEntry;
 use crate::fast_path::{Stopped, run_fast};
@@ -34,6 +34,7 @@ pub(crate) struct Peak {
 
 impl Peak {
     // Returns the peak of these values and of the values in `entries`.
+    #[tactic(auto, using(crate::proofs::PeaksAddUp::risen_by))]
     fn over(self, entries: &[StackEntry]) -> Peak
         requires size { greatest tree_size (all_held entries.now) < 2 ^ 32 }
         requires nesting { greatest tree_nesting (all_held entries.now) < 2 ^ 8 }
@@ -69,6 +70,7 @@ pub(crate) fn context_peak<C: Code>(code: &C, context: &Context, budget: &Budget
 
 // Returns the peak of these values and of the value of a name, if the context has it. The value
 // exceeds no limit of the budget.
+#[tactic(auto, using(crate::proofs::PeaksAddUp::risen_none))]
 fn named_peak(peak: Peak, name: &str, context: &Context, budget: &Budget) -> Peak
     requires { limit_of_named (budget_view budget.now) (look name.now (pairs_of context.now))
         ≡ None }
@@ -81,6 +83,7 @@ fn named_peak(peak: Peak, name: &str, context: &Context, budget: &Budget) -> Pea
 }
 
 // Returns the peak of these values and of a value that exceeds no limit of the budget.
+#[tactic(auto, using(crate::proofs::PeaksAddUp::limits_kept, crate::proofs::PeaksAddUp::risen_by))]
 fn peak_with(peak: Peak, value: &Value, budget: &Budget) -> Peak
     requires { limit_of (budget_view budget.now) (view value.now) ≡ None }
     ensures { result ≡ risen peak (view value.now ∷ []) }
@@ -138,6 +141,7 @@ pub(crate) fn pushed_here<C: Code>(
 }
 
 // Returns whether a unit has a result.
+#[tactic(auto, using(crate::proofs::PeaksAddUp::kind_is))]
 fn has_result<C: Code>(code: &C, unit: usize) -> bool
     ensures { result ≡ has_result_at (C.code code.now) unit }
 {
