@@ -85,9 +85,10 @@ room_after k n u s (stage.Done o) room e = tt
 room_after k n u s stage.Lost room e = tt
 
 -- What a slice uses fits 64 bits together with what was used before it.
-pub slice_fits : (k : Code) (n : ℕ) (u v : Used) (s : State) → HasRoom u s → v ≡ used_within k n (config_view s)
+pub slice_fits : (k : Code) (n : ℕ) (u v : Used) (p : Peak) (s : State) → HasRoom u s
+    → v ≡ with_peak p (used_within k n (config_view s))
     → (u.fuel + v.fuel < 2 ^ 64) × (u.output + v.output < 2 ^ 64)
-slice_fits k n u v s room e =
+slice_fits k n u v p s room e =
     let w = within_left k n (config_view s) in (
       omega (arith, room.fuel, w.0, ap (λ (x : Used). x.fuel) e),
       omega (arith, room.output, w.1, ap (λ (x : Used). x.output) e),

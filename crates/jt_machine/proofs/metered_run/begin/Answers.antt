@@ -1,5 +1,5 @@
-use Rattle.jt_machine.proofs.Vocabulary.{Goes, budget_view, pairs_of}
-use Rattle.std.proofs.Common.{◌∙◌, None, ap, arith, refl, sym}
+use Rattle.jt_machine.proofs.Vocabulary.{Goes, budget_view, pairs_of, passed}
+use Rattle.std.proofs.Common.{◌≡◌, ◌∙◌, None, ap, arith, refl, sym}
 use Rattle.jt_image.specs.Config.{Config}
 use Rattle.jt_machine.proofs.PeaksAddUp.{start_room, start_used}
 use Rattle.jt_machine.proofs.metered_run.begin.Goals as goal
@@ -15,12 +15,15 @@ returns-clause-underway g c = record {
 
 pub returns-clause-used : goal.returns-clause-used
 returns-clause-used g c =
-    c.at_start-used.ensures ∙ start_used _ _ c.context_peak.result c.in-None.ensures c.context_peak.ensures
+    let none : passed (budget_view c.args.budget) (pairs_of c.args.context.now) (g.C.Code.code c.args.code.now).names
+    ≡ None = sym c.context_limit.ensures ∙ rw c.in_default.is refl in
+    c.at_start-used.ensures ∙ start_used _ _ c.context_peak.result (sym none) c.context_peak.ensures
 
 pub returns-clause-room : goal.returns-clause-room
 returns-clause-room g c =
+    let none : passed (budget_view c.args.budget) (pairs_of c.args.context.now) (g.C.Code.code c.args.code.now).names
+    ≡ None = sym c.context_limit.ensures ∙ rw c.in_default.is refl in
     start_room (budget_view c.args.budget) (pairs_of c.args.context.now) (g.C.Code.code c.args.code.now).names
-    c.at_start-used.result c.in_ok-state.state (sym c.in-None.ensures)
-    (ap (λ (x : Config). x.left) c.in_ok-state.ensures.state)
+    c.at_start-used.result c.in_ok-state.state none (ap (λ (x : Config). x.left) c.in_ok-state.ensures.state)
     (c.at_start-used.ensures ∙ start_used None _ c.context_peak.result refl c.context_peak.ensures)
     (omega arith) (omega arith)

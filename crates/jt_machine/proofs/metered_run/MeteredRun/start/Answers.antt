@@ -34,3 +34,9 @@ returns-clause-least c =
     let is : c.deref.result.now ≡ arc_value c.args.image = cc (c.deref.ensures) in
     λ x b. uses_least c.code_laws.ensures c.deref.result.now (arc_value c.args.image) is c.image.ensures.whole
     c.image.ensures.typed x b
+
+pub returns-in_err-stage-clause-least : goal.returns-in_err-stage-clause-least
+returns-in_err-stage-clause-least c =
+    let is : c.deref.result.now ≡ arc_value c.args.image = cc (c.deref.ensures) in
+    λ x b. uses_least c.code_laws.ensures c.deref.result.now (arc_value c.args.image) is c.image.ensures.whole
+    c.image.ensures.typed x b
