@@ -1,7 +1,9 @@
 -- What a run that ends with a text has used is the least budget with which it ends so.
 use Rattle.jt_machine.proofs.Vocabulary.{Action, Budget, Code, CodeLaws, Config, Ends, Goes, Instruction, IsCode}
-use Rattle.jt_machine.proofs.Vocabulary.{IsSound, IsTyped, Next, Pairs, Place, RunFrom, Section, Tree, Wrong, after, cost}
-use Rattle.jt_machine.proofs.Vocabulary.{goes_on, greatest, limit_of, nat_lt, nat_tests, next, next_at, passed, place_at}
+use Rattle.jt_machine.proofs.Vocabulary.{IsSound, IsTyped, Next, Pairs, Place, RunFrom, Section, Tree, Wrong, after}
+use Rattle.jt_machine.proofs.Vocabulary.{cost}
+use Rattle.jt_machine.proofs.Vocabulary.{goes_on, greatest, limit_of, nat_lt, nat_tests, next, next_at, passed}
+use Rattle.jt_machine.proofs.Vocabulary.{place_at}
 use Rattle.jt_machine.proofs.Vocabulary.{placed, spends, start, strict, then_goes, unless, wrong}
 use Rattle.std.proofs.Common.{◌≡◌, ◌∙◌, ℕ, zero, suc, ◌+◌, ◌-◌, ◌≤◌, false, max, List, [], ◌∷◌, length, Option, Some}
 use Rattle.std.proofs.Common.{None, ap, arith, inl, inr, refl, rules, subst, sym}
@@ -22,7 +24,8 @@ use Rattle.jt_machine.proofs.LimitsRaised.{cost_under, demand_under, under}
 use Rattle.jt_machine.proofs.LimitsRaised.{ends_not, faulty_not, has_passed, step_within}
 use Rattle.jt_machine.proofs.PeaksAddUp.{passed_none, passed_within}
 use Rattle.jt_machine.proofs.PushedMeasured.{step_measured}
-use Rattle.jt_machine.proofs.UseAddsUp.{first_counted, has_taken, last_cost, placed_text, same_used, spent_text, used_ended}
+use Rattle.jt_machine.proofs.UseAddsUp.{first_counted, has_taken, last_cost, placed_text, same_used, spent_text}
+use Rattle.jt_machine.proofs.UseAddsUp.{used_ended}
 use Rattle.jt_machine.proofs.UseAddsUp.{if_text, within_left}
 
 -- ---- a step that goes on, and other budgets
@@ -188,7 +191,18 @@ ends_under k (suc n) c t o s e h = along (λ b p r z i. ends_under k n b t p r z
         let cost : next_cost k c + (used_within k n b).fuel ≤ o.fuel = fits.fuel in
         let ways = (step_measured k c b r).level in
         let calls : w.calls ≤ o.depth =
-        elim ways [ inl z ↦ omega (arith, z) | inr z ↦ omega (arith, z, fits.depth, depth, level, counted, took.calls) ] in
+        elim ways [
+          | inl z ↦ omega (arith, z)
+          | inr z ↦ omega (
+            arith,
+            z,
+            fits.depth,
+            depth,
+            level,
+            counted,
+            took.calls,
+          )
+        ] in
         let for : HasFor (next_cost k c) w o = record {
           fuel = omega (arith, cost);
           calls = calls;

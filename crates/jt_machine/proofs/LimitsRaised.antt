@@ -3,7 +3,8 @@ use Rattle.jt_machine.proofs.Vocabulary.{Fault}
 use Rattle.jt_machine.proofs.Vocabulary.{Action, Budget, Code, Config, Ends, Goes, Instruction, Next, Place, Section}
 use Rattle.jt_machine.proofs.Vocabulary.{HasRunFast, State, Wrong, after, config_view, cost, goes_on, next, next_at}
 use Rattle.jt_machine.proofs.Vocabulary.{placed, place_at, spends, strict, then_goes, wrong, nat_tests, nat_lt}
-use Rattle.std.proofs.Common.{◌≡◌, ◌∙◌, ℕ, zero, suc, ◌≤◌, ◌-◌, false, length, List, Option, Some, None, refl, sym, ap, arith}
+use Rattle.std.proofs.Common.{◌≡◌, ◌∙◌, ℕ, zero, suc, ◌≤◌, ◌-◌, false, length, List, Option, Some, None, refl, sym}
+use Rattle.std.proofs.Common.{ap, arith}
 use Rattle.jt_image.specs.Config.{MachineState}
 use Rattle.jt_image.specs.Run.{cost_at, next_cost, spared}
 use Rattle.jt_image.specs.Step.{Demand, ends, faulty, fetch}
@@ -41,7 +42,8 @@ has_passed n m w b p d e =
       is = nesting.1;
     }
 
-pub ends_not : (n : ℕ) (t : List ℕ) (b : Budget) (p : Option Place) (d : Config) → placed p (spends n (ends t) b) ≡ Goes d
+pub ends_not : (n : ℕ) (t : List ℕ) (b : Budget) (p : Option Place) (d : Config) → placed p (spends n (ends t) b) ≡
+Goes d
     → ⊥
 ends_not n t b p d e =
     let enough = unless_goes (nat_lt b.fuel n) _ _ d (placed_goes p _ d e) in absurd (cc (enough.1))

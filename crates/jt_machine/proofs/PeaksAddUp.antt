@@ -1,7 +1,9 @@
 -- The peak of a run grows by the values that each step pushes.
-use Rattle.jt_machine.proofs.Vocabulary.{Budget, Code, Config, Goes, Pairs, State, after, config_view, greatest, limit_of}
+use Rattle.jt_machine.proofs.Vocabulary.{Budget, Code, Config, Goes, Pairs, State, after, config_view, greatest}
+use Rattle.jt_machine.proofs.Vocabulary.{limit_of}
 use Rattle.jt_machine.proofs.Vocabulary.{next, passed, values_at, nat_tests, nat_lt, Tree, slice_get}
-use Rattle.std.proofs.Common.{◌≡◌, ◌∙◌, ℕ, ◌+◌, ◌-◌, ◌<◌, ◌≤◌, ◌^◌, max, drop, List, [], ◌∷◌, Option, Some, None, ap, sym, refl}
+use Rattle.std.proofs.Common.{◌≡◌, ◌∙◌, ℕ, ◌+◌, ◌-◌, ◌<◌, ◌≤◌, ◌^◌, max, drop, List, [], ◌∷◌, Option, Some, None, ap}
+use Rattle.std.proofs.Common.{sym, refl}
 use Rattle.std.proofs.Common.{arith, rules}
 use Rattle.jt_image.specs.Code.{Name}
 use Rattle.jt_image.specs.Config as config
@@ -121,7 +123,8 @@ peak_fits k m left s t u p q g e h i is =
 pub limits_kept : (b : Budget) (t : Tree) → limit_of b t ≡ None → (tree.size t ≤ b.size) × (tree.nesting t ≤ b.nesting)
 limits_kept b t e = search (arith, rules, nat_tests)
 
-risen_found : (p : Peak) (o : Option Tree) (ts : List Tree) → risen (risen p (with_found o [])) ts ≡ risen p (with_found o ts)
+risen_found : (p : Peak) (o : Option Tree) (ts : List Tree) → risen (risen p (with_found o [])) ts ≡ risen p
+(with_found o ts)
 risen_found p None ts = same_peak _ _ (omega arith) (omega arith)
 risen_found p (Some t) ts = same_peak _ _ (omega arith) (omega arith)
 

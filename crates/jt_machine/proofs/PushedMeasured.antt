@@ -5,14 +5,17 @@ use Rattle.jt_machine.proofs.Vocabulary.{Instruction, Items, Next, Place, Sectio
 use Rattle.jt_machine.proofs.Vocabulary.{begins, broken, capture, cost, faults_by, frame, goes, goes_on, greatest}
 use Rattle.jt_machine.proofs.Vocabulary.{listed, mapped, next, next_at, no_demand, on_value, on_values, operands_of}
 use Rattle.jt_machine.proofs.Vocabulary.{operator_of, piled, place_at, placed, push_given, pushing, pushing_all}
-use Rattle.jt_machine.proofs.Vocabulary.{put_printed, spends, straight, strict, Ends, Wrong, value, values_at, values_on}
-use Rattle.jt_machine.proofs.Vocabulary.{filter_of, filtered_by, items_of_tree, keeping, operated, shown, slice_get, slice_set}
+use Rattle.jt_machine.proofs.Vocabulary.{put_printed, spends, straight, strict, Ends, Wrong, value, values_at}
+use Rattle.jt_machine.proofs.Vocabulary.{values_on}
+use Rattle.jt_machine.proofs.Vocabulary.{filter_of, filtered_by, items_of_tree, keeping, operated, shown, slice_get}
+use Rattle.jt_machine.proofs.Vocabulary.{slice_set}
 use Rattle.jt_machine.proofs.Vocabulary.{test_of, tested_by}
 use Rattle.jt_machine.proofs.Vocabulary.{advanced, append-nil, calling, entered, nat_lt, nat_tests, trees_of}
 use Rattle.jt_machine.proofs.Vocabulary.{with_entries, wrong}
 use Rattle.std.specs.Prelude.{◌⊎◌, if◌then◌else◌, ◌==◌}
 use Rattle.std.proofs.Common.{◌≡◌, ◌∙◌, ℕ, zero, suc, ◌+◌, ◌*◌, Bool, true, false, cond, List, [], ◌∷◌, ◌++◌, length}
-use Rattle.std.proofs.Common.{Option, Some, None, Result, Ok, Err, inl, inr, refl, sym, ap, subst, arith, rules, append_assoc}
+use Rattle.std.proofs.Common.{Option, Some, None, Result, Ok, Err, inl, inr, refl, sym, ap, subst, arith, rules}
+use Rattle.std.proofs.Common.{append_assoc}
 use Rattle.jt_value.specs.Tree as tree
 use Rattle.jt_image.specs.Config.{MachineState, State}
 use Rattle.jt_image.specs.Step.{Demand, Given, Plain, action, calls_unit, closes, disorder, ends, faulty, given_by}
@@ -130,7 +133,8 @@ spread_measured ts es =
     let none : length ts + 0 ≡ length ts = omega arith in
     let there : values_on (length ts) (piled ts es) ≡ Some (ts ++ [], es) = rw none at
     (piled_found {A = Option (List Tree × List StackEntry)} ts [] 0 es None (λ us rest. Some (us, rest))) in
-    let same : values_at (length ts) (piled ts es) ≡ ts ++ [] = rw none at (piled_found {A = List Tree} ts [] 0 es [] (λ us rest. us)) in
+    let same : values_at (length ts) (piled ts es) ≡ ts ++ [] = rw none at (piled_found {A = List Tree} ts [] 0 es
+    [] (λ us rest. us)) in
     record {
       has = record { values = ts ++ []; rest = es; is = there };
       size = sym (ap (greatest tree.size) (same ∙ append-nil ts));
@@ -260,7 +264,8 @@ return_measured zero (a ∷ cs) (e ∷ es) bs c = tt
 return_measured (suc n) [] [] bs c = tt
 return_measured (suc n) (a ∷ cs) [] bs c = tt
 return_measured (suc n) [] (value t ∷ []) bs c = tt
-return_measured (suc n) (a ∷ cs) (value t ∷ []) bs c = one_pushed t (record (pushing t) { returns = 1 }) a.entries refl refl refl
+return_measured (suc n) (a ∷ cs) (value t ∷ []) bs c = one_pushed t (record (pushing t) { returns = 1 }) a.entries
+    refl refl refl
 return_measured (suc n) [] (value t ∷ e ∷ es) bs c = tt
 return_measured (suc n) (a ∷ cs) (value t ∷ e ∷ es) bs c = tt
 return_measured (suc n) [] (frame f ∷ es) bs c = tt
@@ -329,7 +334,8 @@ step_measured_at : (k : Code) (o : Option (Section × Instruction)) (c d : Confi
 step_measured_at k None c d e = absurd cc
 step_measured_at k (Some x) c d e =
     spent_measured _ (cost x.1 c.machine.state) (strict k x.0 x.1 c.machine) c.left
-    (place_at k c.machine.unit c.machine.point) d (strict_measured k x.0 x.1 c.machine (in_tables k x.1 c.machine.state)) e
+    (place_at k c.machine.unit c.machine.point) d (strict_measured k x.0 x.1 c.machine (in_tables k x.1
+    c.machine.state)) e
 
 -- The values that a step pushes are on top after it.
 pub step_measured : (k : Code) (c d : Config) → next k c ≡ Goes d

@@ -115,7 +115,8 @@ pub if_text : (x : Bool) (a : Action) (t : List ℕ) → (if x then a else wrong
 if_text true a t e = e
 if_text false a t e = absurd cc
 
-pub placed_text : (p : Option Place) (n : Next) (t : List ℕ) → placed p n ≡ Ends (config.text t) → n ≡ Ends (config.text t)
+pub placed_text : (p : Option Place) (n : Next) (t : List ℕ) → placed p n ≡ Ends (config.text t) → n ≡ Ends
+    (config.text t)
 placed_text p (Goes c) t e = absurd cc
 placed_text p (Ends (config.text s)) t e = e
 placed_text p (Ends (config.fault f q)) t e = absurd cc

@@ -67,7 +67,8 @@ steps-preserved g c =
           (c.max-deepest.ensures ∙ ap (λ (n : ℕ). max c.steps.deepest n) c.open_calls.ensures);
       peak = peak_on k c.args.k c.run_below-stopped.result.left (config_view c.args.run.now.state)
           (config_view c.run_below-stopped.new.state) (config_view c.step.new.state) _ _ _ (omega arith) most far e
-          (peak_same c.args.k (config_view c.args.run.now.state) c.args.run.now.peak c.steps.run.peak c.steps.invariant.within c.steps.invariant.so_far
+          (peak_same c.args.k (config_view c.args.run.now.state) c.args.run.now.peak c.steps.run.peak
+          c.steps.invariant.within c.steps.invariant.so_far
           c.run_below-stopped.ensures.gone c.steps.invariant.peak)
           risen;
       size = fits.0;
@@ -109,7 +110,8 @@ returns-then-stopped-eq0-clause-used g c =
     c.use_between.ensures
     ∙ slice_used k (c.args.k - c.run_below-stopped.result.left) c.args.run.now.state c.run_below-stopped.new.state
     c.steps.deepest c.args.run.now.peak _ far (c.steps.invariant.deepest ∙ sym level)
-    (peak_same c.args.k first c.args.run.now.peak c.steps.run.peak c.steps.invariant.within c.steps.invariant.so_far c.run_below-stopped.ensures.gone
+    (peak_same c.args.k first c.args.run.now.peak c.steps.run.peak c.steps.invariant.within
+    c.steps.invariant.so_far c.run_below-stopped.ensures.gone
     c.steps.invariant.peak)
     ∙ ap (λ (n : ℕ). with_peak c.args.run.now.peak (used_within k n first)) all
 
@@ -174,7 +176,8 @@ returns-in-Some-clause-used g c =
     let used = slice_used_to_end k (c.args.k - c.run_below-stopped.result.left) c.args.k c.args.run.now.state
     c.run_below-stopped.new.state o c.steps.deepest c.args.run.now.peak _ far e
     (omega (arith, c.steps.invariant.within, gone.count)) (c.steps.invariant.deepest ∙ sym level)
-    (peak_same c.args.k first c.args.run.now.peak c.steps.run.peak c.steps.invariant.within c.steps.invariant.so_far c.run_below-stopped.ensures.gone
+    (peak_same c.args.k first c.args.run.now.peak c.steps.run.peak c.steps.invariant.within
+    c.steps.invariant.so_far c.run_below-stopped.ensures.gone
     c.steps.invariant.peak) in
     rw c.end_cost.ensures at c.use_between-in-Some.ensures ∙ used
 
