@@ -43,7 +43,7 @@ has_passed n m w b p d e =
     }
 
 pub ends_not : (n : ℕ) (t : List ℕ) (b : Budget) (p : Option Place) (d : Config) → placed p (spends n (ends t) b) ≡
-Goes d
+    Goes d
     → ⊥
 ends_not n t b p d e =
     let enough = unless_goes (nat_lt b.fuel n) _ _ d (placed_goes p _ d e) in absurd (cc (enough.1))

@@ -124,7 +124,7 @@ pub limits_kept : (b : Budget) (t : Tree) → limit_of b t ≡ None → (tree.si
 limits_kept b t e = search (arith, rules, nat_tests)
 
 risen_found : (p : Peak) (o : Option Tree) (ts : List Tree) → risen (risen p (with_found o [])) ts ≡ risen p
-(with_found o ts)
+    (with_found o ts)
 risen_found p None ts = same_peak _ _ (omega arith) (omega arith)
 risen_found p (Some t) ts = same_peak _ _ (omega arith) (omega arith)
 
