@@ -5,15 +5,15 @@
     tools/needs.py [--jt PATH] render DIR NAME [CONTEXT] [OPTION ..]   a rendering, or `run IMAGE [CONTEXT]`
 
 Without --jt it runs the program that `rt run` keeps, crates/jt_cli/out/jt_cli. Of a rendering that ends with a text, one run with --report
-states fuel, depth and output; every other number is found by bisection, in some 20 runs of the program. The figures do not depend on the
-machine, nor on how the program was built.
+states each number. If it ends otherwise, each number is found by bisection, in some 20 runs of the program. The figures do not depend on
+the machine, nor on how the program was built.
 """
 import argparse, json, pathlib, re, subprocess, tempfile
 
 ROOT = pathlib.Path(__file__).resolve().parent.parent
 AMPLE = {"fuel": 10**9, "depth": 10**4, "output": 2**30, "size": 2**30, "nesting": 255}
 EXAMPLES = ROOT / "examples"
-USED = re.compile(rb"jt: used fuel ([0-9]+) depth ([0-9]+) output ([0-9]+)\n")
+USED = re.compile(rb"jt: used fuel ([0-9]+) depth ([0-9]+) output ([0-9]+) size ([0-9]+) nesting ([0-9]+)\n")
 
 
 def ended(jt, words, budget):
@@ -27,7 +27,7 @@ def reported(jt, words):
     """What a rendering that ends with a text used, by the program's own line."""
     status, _, line = ended(jt, [*words, "--report"], AMPLE)
     used = USED.fullmatch(line)
-    return dict(zip(("fuel", "depth", "output"), map(int, used.groups()))) if status == 0 and used else {}
+    return dict(zip(AMPLE, map(int, used.groups()))) if status == 0 and used else {}
 
 
 def needed(jt, words):

@@ -98,7 +98,8 @@ ReportsFailure old new sink_failed e = TookUnlessFailed (failure_text e) old new
 -- The line of what a run used of its budget.
 abbrev pub used_line : Used → Text
 used_line u = one_line (codes "jt: used fuel " ++ (decimal u.fuel
-    ++ (codes " depth " ++ (decimal u.depth ++ (codes " output " ++ decimal u.output)))))
+    ++ (codes " depth " ++ (decimal u.depth ++ (codes " output " ++ (decimal u.output
+    ++ (codes " size " ++ (decimal u.size ++ (codes " nesting " ++ decimal u.nesting)))))))))
 
 -- The line of what a run used, if that is to be reported.
 abbrev pub use_text : Option Used → Text

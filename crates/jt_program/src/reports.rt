@@ -70,21 +70,61 @@ fn report_used<E: Sink>(errors: &mut E, used: Used)
     let mut fuel = Buffer::new();
     let mut depth = Buffer::new();
     let mut output = Buffer::new();
+    let mut size = Buffer::new();
+    let mut nesting = Buffer::new();
     let fuel = fuel.format(used.fuel);
     let depth = depth.format(used.depth);
     let output = output.format(used.output);
-    report_numbers(errors, fuel, depth, output);
+    let size = size.format(used.size);
+    let nesting = nesting.format(used.nesting);
+    let numbers = UsedNumbers {
+        fuel,
+        depth,
+        output,
+        size,
+        nesting,
+    };
+    report_numbers(errors, numbers);
+}
+
+/// The numbers of the budget that a run used, as texts.
+#[derive(Clone, Copy)]
+struct UsedNumbers<'a> {
+    fuel: &'a str,
+    depth: &'a str,
+    output: &'a str,
+    size: &'a str,
+    nesting: &'a str,
 }
 
 /// Writes the line of numbers that a run used to `errors`.
-fn report_numbers<E: Sink>(errors: &mut E, fuel: &str, depth: &str, output: &str)
-    ensures { TookUnlessFailed (one_line (codes "jt: used fuel " ++ (fuel.now ++ (codes " depth " ++
-        (depth.now ++ (codes " output " ++ output.now)))))) (E.taken errors.old)
-        (E.taken errors.new) (E.failed errors.new) }
+fn report_numbers<E: Sink>(errors: &mut E, used: UsedNumbers<'_>)
+    ensures { TookUnlessFailed (one_line (codes "jt: used fuel " ++ (used.fuel.now
+        ++ (codes " depth " ++ (used.depth.now ++ (codes " output " ++ (used.output.now
+        ++ (codes " size " ++ (used.size.now ++ (codes " nesting " ++ used.nesting.now))))))))))
+        (E.taken errors.old) (E.taken errors.new) (E.failed errors.new) }
 {
+    let UsedNumbers {
+        fuel,
+        depth,
+        output,
+        size,
+        nesting,
+    } = used;
     report_line(
         errors,
-        &["jt: used fuel ", fuel, " depth ", depth, " output ", output],
+        &[
+            "jt: used fuel ",
+            fuel,
+            " depth ",
+            depth,
+            " output ",
+            output,
+            " size ",
+            size,
+            " nesting ",
+            nesting,
+        ],
     );
 }
 
