@@ -8,6 +8,10 @@ use Rattle.jt_machine.specs.Session.{begun, outcome_of}
 use Rattle.jt_machine.specs.Metering.{IsLeast, Metered, MeteringLaws, UsesLeast, metered_after, metered_start}
 use Rattle.jt_machine.specs.Metering.{named_values, nothing_used, start_use, together}
 use Rattle.jt_machine.specs.declared.Used.{Used}
+use Rattle.jt_value.specs.declared.NoMemory.{NoMemory}
+use Rattle.std.specs.Prelude.{IfOk, Result, Ok, Err}
+use Rattle.jt_machine.specs.View.{outcome_view}
+use Rattle.jt_host.specs.declared.metered_outcome.MeteredOutcome.{MeteredOutcome}
 use Rattle.jt_host.specs.Metered.{EndsUsing}
 
 -- A run before its first step, by the limit that a value of the context exceeds.
@@ -55,7 +59,8 @@ ends_using laws code context b n start run o u least begins so_far ends uses =
     let same : metered_after n (metered_start code context b) ≡ run = sym (so_far ∙ ap (metered_after n) begins) in
     let ended : outcome_of (metered_after n (metered_start code context b)).session ≡ Some o =
     ap (λ (m : Metered). outcome_of m.session) same ∙ ends in
-    let used : (metered_after n (metered_start code context b)).used ≡ u = ap (λ (m : Metered). m.used) same ∙ sym uses in
+    let used : (metered_after n (metered_start code context b)).used ≡ u =
+    ap (λ (m : Metered). m.used) same ∙ sym uses in
     record {
       runs = laws.ends code context b n o ended;
       steps = n;
@@ -64,3 +69,16 @@ ends_using laws code context b n start run o u least begins so_far ends uses =
       least = λ text is. subst (λ (v : Used). IsLeast code context text v) used
           (least n text (ended ∙ ap (λ (e : config.Outcome). Some e) is));
     }
+
+-- If an outcome and a use are returned, they are those of the run.
+pub if_ended : MeteringLaws → (code image : Code) → image ≡ code
+    → (context : Pairs) (b : config.Budget) (n : ℕ) (start run : Metered) → UsesLeast image context b
+    → start ≡ metered_start image context b → run ≡ metered_after n start
+    → (r : Result MeteredOutcome NoMemory)
+    → IfOk r (λ m. outcome_of run.session ≡ Some (outcome_view m.outcome))
+    → IfOk r (λ m. m.used ≡ run.used)
+    → IfOk r (λ m. EndsUsing code context b (outcome_view m.outcome) m.used)
+if_ended laws code image same context b n start run least begins so_far (Ok m) e f =
+    subst (λ (k : Code). EndsUsing k context b (outcome_view m.outcome) m.used) same
+    (ends_using laws image context b n start run (outcome_view m.outcome) m.used least begins so_far e f)
+if_ended laws code image same context b n start run least begins so_far (Err x) e f = tt
