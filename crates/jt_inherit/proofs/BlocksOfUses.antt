@@ -1,9 +1,9 @@
 -- The blocks of a body are its block uses, in order. So the tags of the blocks of one name and the bodies of that name
 -- are as many, in order, with the same requirements and bodies.
 use Rattle.jt_inherit.proofs.Vocabulary as words
-use words.{◌≡◌, ℕ, zero, suc, ◌+◌, Bool, true, false, ◌&&◌, ◌||◌, List, [], ◌∷◌, ◌++◌, length, map, filter, refl, sym}
+use words.{◌≡◌, suc, Bool, true, false, ◌&&◌, List, [], ◌∷◌, ◌++◌, length, map, filter, refl, sym}
 use words.{ap}
-use words.{◌∙◌, arith, rules, Option, Some, None, if◌then◌else◌, cond, slice_get, bytes_eq, map-append, Text, Use, Site}
+use words.{◌∙◌, rules, Option, Some, None, if◌then◌else◌, cond, slice_get, bytes_eq, map-append, Text, Use, Site}
 use words.{Body, Branches, Stmt, body_uses, outside, uses_in, all_uses, Template, blocks_in, BlockBody, their_blocks}
 use words.{◌≤◌, subst, named, tags, is_block, calls_super, from_given, has_call, lacks_call, times}
 use Rattle.std.specs.List.{filter_map, cons_option, list_all}

@@ -1,9 +1,9 @@
 -- A broken rule has its tags: a name that is given twice has two tags that define it, and an imported macro has a tag.
 use Rattle.jt_inherit.proofs.Vocabulary as words
-use words.{◌≡◌, ℕ, zero, suc, ◌+◌, ◌≤◌, ◌<◌, Bool, true, false, List, [], ◌∷◌, ◌++◌, length, map, filter, refl, sym, ap}
-use words.{◌∙◌, arith, rules, Option, Some, None, cond, bytes_eq, map-append, filter-append, length-append, Text, Use}
+use words.{◌≡◌, ℕ, zero, suc, ◌+◌, ◌≤◌, ◌<◌, Bool, true, false, List, [], ◌∷◌, ◌++◌, length, map, filter, refl, ap}
+use words.{◌∙◌, arith, Option, Some, None, cond, bytes_eq, map-append, filter-append, length-append, Text, Use}
 use words.{Site}
-use words.{Body, Stmt, body_uses, outside, uses_in, all_uses, Template, templates, flat_map, among, repeated, macros_in}
+use words.{Body, body_uses, outside, uses_in, all_uses, Template, templates, flat_map, among, macros_in}
 use words.{imports_in, all_given_from, own, macros, imports, given, MacroBody, Namespace, a_chain, a_library, Sources}
 use words.{tags, binds_macro, defines, times, tag_count, public_macro, ⊎_elim, reflexive, ForSome, inl, inr, and_from}
 use words.{slice_get, subst}

@@ -1,5 +1,5 @@
 use Rattle.jt_inherit.proofs.Vocabulary as words
-use words.{◌≡◌, ◌<◌, ℕ, refl, sym, ap, ◌∙◌, arith, Some, all_uses, binds_macro, length, length-map, tag_view, tags_view}
+use words.{◌≡◌, ◌<◌, refl, sym, ap, ◌∙◌, arith, Some, all_uses, binds_macro, length, length-map, tag_view, tags_view}
 use words.{place_in, place_view, tag_count, tags, templates_at}
 use Rattle.jt_inherit.proofs.TagPlaces.{first_shows, place_here}
 use Rattle.jt_chains.specs.View.{its_templates}

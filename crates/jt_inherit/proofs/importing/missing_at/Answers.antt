@@ -1,7 +1,7 @@
 use Rattle.jt_inherit.proofs.Vocabulary.{◌≡◌, true, ap, sym, subst, ◌∙◌, List, any_lacks_macros, or_left, ForSome}
 use Rattle.jt_inherit.proofs.Vocabulary.{Template}
 use Rattle.jt_inherit.proofs.Vocabulary.{Body, lacks_macros, body_uses, outside, imports_it, templates_at, files_view}
-use Rattle.jt_chains.specs.View.{its_sources, its_templates}
+use Rattle.jt_chains.specs.View.{its_sources}
 use Rattle.jt_inherit.proofs.PathsGrow.{templates_turn}
 use Rattle.jt_inherit.proofs.RulesHaveTags.{some_tags}
 use Rattle.jt_inherit.proofs.TagPlaces.{some_template}

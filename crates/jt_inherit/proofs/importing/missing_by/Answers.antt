@@ -1,5 +1,7 @@
-use Rattle.jt_inherit.proofs.Vocabulary.{◌≡◌, true, false, ap, sym, ◌∙◌, subst, Bool, ◌||◌, or_left, inr, ℕ, Sources, Site}
-use Rattle.jt_inherit.proofs.Vocabulary.{String, Vec, Global, string_bytes, given_view, lacks_macros, ForSome, imports_it}
+use Rattle.jt_inherit.proofs.Vocabulary.{◌≡◌, true, false, ap, sym, ◌∙◌, subst, Bool, ◌||◌, or_left, inr, ℕ, Sources}
+use Rattle.jt_inherit.proofs.Vocabulary.{Site}
+use Rattle.jt_inherit.proofs.Vocabulary.{String, Vec, Global, string_bytes, given_view, lacks_macros, ForSome}
+use Rattle.jt_inherit.proofs.Vocabulary.{imports_it}
 use Rattle.jt_inherit.proofs.Vocabulary.{Misses, IsImported, Option, Some, None}
 use Rattle.jt_ast.proofs.StatementViews.{view_From}
 use Rattle.jt_ast.specs.StatementView.{stmt_view}

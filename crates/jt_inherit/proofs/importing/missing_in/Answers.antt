@@ -1,4 +1,5 @@
-use Rattle.jt_inherit.proofs.Vocabulary.{◌≡◌, true, false, ap, refl, ◌∙◌, ◌||◌, List, Bool, Sources, Body, body_view, drop}
+use Rattle.jt_inherit.proofs.Vocabulary.{◌≡◌, true, false, ap, refl, ◌∙◌, ◌||◌, List, Bool, Sources, Body, body_view}
+use Rattle.jt_inherit.proofs.Vocabulary.{drop}
 use Rattle.jt_inherit.proofs.Vocabulary.{lacks_macros, or_left, imports_it, ◌+◌}
 use Rattle.jt_ast.specs.StatementView.{stmt_view}
 use Rattle.jt_ast.specs.Statements as trees

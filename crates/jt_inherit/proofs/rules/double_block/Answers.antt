@@ -1,4 +1,4 @@
-use Rattle.jt_inherit.proofs.Vocabulary.{arith, ap, sym, true, false, ◌∙◌, length-map, file_view, index_within, body_at}
+use Rattle.jt_inherit.proofs.Vocabulary.{arith, sym, true, false, ◌∙◌, length-map, file_view, index_within, body_at}
 use Rattle.jt_inherit.proofs.Vocabulary.{get_or}
 use Rattle.jt_chains.specs.Parts.{name_at}
 use Rattle.jt_chains.specs.View.{its_sources, its_templates}
