@@ -27,10 +27,10 @@ pub told_with_notes : (sources : SourceTexts) (entry : Text) (options : Options)
     → whole ≡ string_bytes e.text ++ notes → IsTold sources entry options whole
 told_with_notes sources entry options e notes whole is noted same = record {
   found = is.0;
-  holds = is.1.0;
-  clues = is.1.1.clues;
-  shown = is.1.1.shown;
+  holds = is.1;
+  clues = is.2.clues;
+  shown = is.2.shown;
   notes = notes;
-  noted = noted is.0 is.1.1.refusal;
-  printed = same ∙ ap (λ t. t ++ notes) is.1.1.text;
+  noted = noted is.0 is.2.refusal;
+  printed = same ∙ ap (λ t. t ++ notes) is.2.text;
 }
