@@ -7,5 +7,6 @@ returns c = inr (record {
   runs = c.in-Ok.ensures.rendered;
   notes = string_bytes c.in_ok-notes.notes;
   noted = c.in_ok-notes.ensures;
-  printed = c.in_ok-with_notes.ensures ∙ ap (λ t. t ++ string_bytes c.in_ok-notes.notes) c.in_ok-text.ensures;
+  printed = (rw c.deref.ensures at c.in_ok-with_notes.ensures)
+      ∙ ap (λ t. t ++ string_bytes c.in_ok-notes.notes) c.in_ok-text.ensures;
 })
