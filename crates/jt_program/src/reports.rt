@@ -84,7 +84,7 @@ fn report_used<E: Sink>(errors: &mut E, used: Used)
         size,
         nesting,
     };
-    report_numbers(errors, numbers);
+    report_numbers(errors, &numbers);
 }
 
 /// The numbers of the budget that a run used, as texts.
@@ -98,10 +98,11 @@ struct UsedNumbers<'a> {
 }
 
 /// Writes the line of numbers that a run used to `errors`.
-fn report_numbers<E: Sink>(errors: &mut E, used: UsedNumbers<'_>)
-    ensures { TookUnlessFailed (one_line (codes "jt: used fuel " ++ (used.fuel.now
-        ++ (codes " depth " ++ (used.depth.now ++ (codes " output " ++ (used.output.now
-        ++ (codes " size " ++ (used.size.now ++ (codes " nesting " ++ used.nesting.now))))))))))
+fn report_numbers<E: Sink>(errors: &mut E, used: &UsedNumbers<'_>)
+    ensures { TookUnlessFailed (one_line (codes "jt: used fuel " ++ (used.now.fuel.now
+        ++ (codes " depth " ++ (used.now.depth.now ++ (codes " output " ++ (used.now.output.now
+        ++ (codes " size " ++ (used.now.size.now
+        ++ (codes " nesting " ++ used.now.nesting.now))))))))))
         (E.taken errors.old) (E.taken errors.new) (E.failed errors.new) }
 {
     let UsedNumbers {
@@ -110,7 +111,7 @@ fn report_numbers<E: Sink>(errors: &mut E, used: UsedNumbers<'_>)
         output,
         size,
         nesting,
-    } = used;
+    } = *used;
     report_line(
         errors,
         &[
