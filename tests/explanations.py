@@ -14,6 +14,8 @@ FIRST = re.compile(
     r"(?P<kind> \(\w+\))?(?P<tail>[;,:] .+)?"
 )
 ROW = re.compile(r'(?m)^\| (?P<refusal>[A-Z][0-9]+ \w+(?: "NAME")?(?: \(\w+\))?) \| (?P<sentence>[^|]+) \|$')
+# A template that compiles, with its notes.
+NOTED = re.compile(r"ok(?:\nnote: [^\n]+)*")
 # A character of a word: the name is marked where none is beside it.
 WORD = "[A-Za-z0-9_\\x80-\U0010ffff]"
 LINE_END = re.compile("\r\n|\r|\n")
@@ -103,8 +105,8 @@ def sentence(refusal, name, kind):
 
 def answers(folder, wanted):
     """What `explain` and `compile` of the templates of a folder must come to, by the first line that `explain` prints."""
-    if wanted == "ok":
-        return "0 [ok\n][]", "0 [][]"
+    if NOTED.fullmatch(wanted):
+        return f"0 [{wanted}\n][]", "0 [][]"
     found = FIRST.fullmatch(wanted)
     if not found:
         raise ValueError(f"no first line of an explanation: {wanted[:80]!r}")

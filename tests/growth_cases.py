@@ -133,6 +133,10 @@ def of_sources():
     yield Case("render, no directory", "render no t", {})
     yield Case("render, a file not UTF-8", "render d t", {**in_folder({"t": "x"}), "d/b": b"\xff"})
     yield Case("explain, no directory", "explain no t", {})
+    yield Case("needs, names and templates", "needs d t",
+               in_folder({"t": '{{ a }}{% include "p" %}{% include "q" ignore missing %}', "p": "{{ b }}"}))
+    yield Case("needs, P3", "needs d t", in_folder({"t": "{{ x|nope }}"}))
+    yield Case("needs, no directory", "needs no t", {})
     yield Case("explain, another template", "explain d t", in_folder({"t": '{% include "p" %}', "p": "a\r\n\n{{ f.m(1) }}\n"}))
     yield Case("compile, no directory for OUT", "compile d t no/out", in_folder({"t": "x"}), out="no/out")
 

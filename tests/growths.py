@@ -309,7 +309,7 @@ def reads(program, shim):
     """What is wrong where the files of a line fail while they are read."""
     files = {"d/a": b"a" * 40, "d/t": b"{{ x }}" * 8, "x": X, "y": X, "c": b'{"x": "a longer text"}', "e": b" " * 20 + b"{}"}
     lines = {"run x c": "x c", "check x": "x", "show x": "x", "render d t c": "d/a d/t c", "compile d t out": "d/a d/t",
-             "explain d t": "d/a d/t", "turns x c y e": "x c y e", "upgrade x out": "x"}
+             "explain d t": "d/a d/t", "needs d t": "d/a d/t", "turns x c y e": "x c y e", "upgrade x out": "x"}
     with tempfile.TemporaryDirectory(prefix="jt-growths-") as room:
         os.mkdir(f"{room}/d")
         for name, data in files.items():

@@ -1,6 +1,6 @@
 """What `jt explain` prints of a run by the documents, for the rows of explanations with a context of tests/run.py.
 
-A row wants the first line of the text alone, or `ok`. This module adds the line of the template's file and the sentence of docs/errors.md,
+A row wants the first line of the text alone, or `ok` with all lines of notes. This module adds the line of the template's file and the sentence of docs/errors.md,
 and tells what `jt render` says of the same templates and context.
 """
 import functools
@@ -27,8 +27,8 @@ def sentences():
 
 def answers(folder, wanted):
     """What `explain` and `render` of the templates of a folder and a context must come to, by the first line that `explain` prints."""
-    if wanted == "ok":
-        return "0 [ok\n][]", "0 […]"
+    if explanations.NOTED.fullmatch(wanted):
+        return f"0 [{wanted}\n][]", "0 […]"
     if found := FAULT.fullmatch(wanted):
         template, line, fault = found["template"], int(found["line"]), found["fault"]
         source = explanations.line_of(folder, template, line)

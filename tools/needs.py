@@ -4,14 +4,16 @@
     tools/needs.py [--jt PATH]                                       each folder of examples/, and these with longer lists
     tools/needs.py [--jt PATH] render DIR NAME [CONTEXT] [OPTION ..]   a rendering, or `run IMAGE [CONTEXT]`
 
-Without --jt it runs the program that `rt run` keeps, crates/jt_cli/out/jt_cli. It finds each number by bisection, in some 20 runs of the
-program. The figures do not depend on the machine, nor on how the program was built.
+Without --jt it runs the program that `rt run` keeps, crates/jt_cli/out/jt_cli. Of a rendering that ends with a text, one run with --report
+states each number. If it ends otherwise, each number is found by bisection, in some 20 runs of the program. The figures do not depend on
+the machine, nor on how the program was built.
 """
-import argparse, json, pathlib, subprocess, tempfile
+import argparse, json, pathlib, re, subprocess, tempfile
 
 ROOT = pathlib.Path(__file__).resolve().parent.parent
 AMPLE = {"fuel": 10**9, "depth": 10**4, "output": 2**30, "size": 2**30, "nesting": 255}
 EXAMPLES = ROOT / "examples"
+USED = re.compile(rb"jt: used fuel ([0-9]+) depth ([0-9]+) output ([0-9]+) size ([0-9]+) nesting ([0-9]+)\n")
 
 
 def ended(jt, words, budget):
@@ -21,11 +23,20 @@ def ended(jt, words, budget):
     return ran.returncode, ran.stdout, ran.stderr
 
 
+def reported(jt, words):
+    """What a rendering that ends with a text used, by the program's own line."""
+    status, _, line = ended(jt, [*words, "--report"], AMPLE)
+    used = USED.fullmatch(line)
+    return dict(zip(AMPLE, map(int, used.groups()))) if status == 0 and used else {}
+
+
 def needed(jt, words):
     """The least of each number, where all others are ample, and the text."""
     whole = ended(jt, words, AMPLE)
-    found = {}
+    found = reported(jt, words)
     for name, most in AMPLE.items():
+        if name in found:
+            continue
         high = 1
         while high < most and ended(jt, words, {**AMPLE, name: high}) != whole:
             high *= 4
@@ -69,7 +80,7 @@ def main():
     with tempfile.TemporaryDirectory() as room:
         for title, line in [(" ".join(words), words)] if words else examples(room):
             found, (status, text, _) = needed(asked.jt, line)
-            numbers = "  ".join(f"{name} {number:,}" for name, number in found.items())
+            numbers = "  ".join(f"{name} {found[name]:,}" for name in AMPLE)
             print(f"{title}: {numbers}  (status {status}, {len(text):,} bytes)", flush=True)
 
 

@@ -1,8 +1,9 @@
 #!/usr/bin/env python3
 """Proves the crates over the work that earlier runs kept in their out/ folders, several side by side: tools/prove.py [--lanes N] [CRATE ..]
 
-A developer's tool: what did not change is not proved again, so that a change is tried in minutes. THE KIT'S OWN RUN IS THE VERDICT: `rt ci`
-proves all from nothing. Like the verdict, this tool stops at what rattle only warns of: a tactic that chose a term of a contract, a pattern
+A developer's tool: what did not change is not proved again, so that a change is tried in minutes. It takes what checks in other checkouts
+on this machine kept, and lets them take what it proves, if the kit shares work (13f does). THE KIT'S OWN RUN IS THE VERDICT: `rt ci` proves
+all from nothing. Like the verdict, this tool stops at what rattle only warns of: a tactic that chose a term of a contract, a pattern
 that binds a variable spelled like a constructor, and a contract that no call can meet.
 
 A crate begins when its libraries are proved, the crate with the longest chain of crates above it first. The named crates are proved, or
@@ -54,8 +55,18 @@ class Task:
             return f"the last line has a word that no verdict may have: {last}"
         return None
 
+    def begin(self):
+        """Takes what other checkouts on this machine kept of the crate, if the kit shares that and it serves better than what is here."""
+        if hasattr(rt, "adopt") and not self.is_tests:
+            rt.adopt(self.crate)
+            if self.makes_library:
+                rt.take_rlib(self.crate)
+
     def prove(self, jobs):
         """Proves the crate, and returns why not, if not."""
+        if self.is_proved():
+            return None
+        self.begin()
         if self.is_proved():
             return None
         stamp = self.crate.stamp()
@@ -74,6 +85,8 @@ class Task:
             why = "its files changed meanwhile"
         if not why:
             pathlib.Path(self.stamp).write_text(stamp, encoding="utf-8")
+            if hasattr(rt, "offer") and not self.is_tests:
+                rt.offer(self.crate, stamp)
         return f"{why}: {os.path.relpath(self.log)}" if why else None
 
 

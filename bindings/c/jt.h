@@ -163,6 +163,8 @@ struct jt_used {
     uint64_t fuel;   /* the sum of the costs of the executed instructions */
     uint64_t output; /* the number of written bytes, those of kept texts included */
     uint32_t depth;  /* the most calls that were open at once */
+    uint32_t size;   /* the greatest size of a value that was tested, 0 if none was */
+    uint8_t nesting; /* the greatest nesting of a value that was tested */
 };
 
 /* Sources of templates by their names, or nothing. */

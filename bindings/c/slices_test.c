@@ -41,7 +41,8 @@ static const struct {
 };
 
 static bool equal(struct jt_used a, struct jt_used b) {
-    return a.fuel == b.fuel && a.output == b.output && a.depth == b.depth;
+    return a.fuel == b.fuel && a.output == b.output && a.depth == b.depth && a.size == b.size &&
+           a.nesting == b.nesting;
 }
 
 static struct jt_image image;
@@ -91,6 +92,8 @@ static void suffices(struct jt_used used, const struct result *wanted) {
     within.fuel = used.fuel;
     within.output = used.output;
     within.depth = used.depth;
+    within.size = used.size;
+    within.nesting = used.nesting;
     clear(&result);
     result.answer = whole(within, result.out, ROOM);
     expect(same(&result, wanted), "what was used suffices");
@@ -103,13 +106,20 @@ static void suffices(struct jt_used used, const struct result *wanted) {
     within.depth = used.depth - 1;
     expect(used.depth == 0 || is(whole(within, result.out, ROOM), JT_SPENT, JT_DEPTH),
            "one call less");
+    within.depth = used.depth;
+    within.size = used.size - 1;
+    expect(used.size == 0 || is(whole(within, result.out, ROOM), JT_SPENT, JT_SIZE), "one size less");
+    within.size = used.size;
+    within.nesting = used.nesting - 1;
+    expect(used.nesting == 0 || is(whole(within, result.out, ROOM), JT_SPENT, JT_NESTING),
+           "one level less");
 }
 
 /* Checks that slices of any size have the outcome of the run in one call, and use the same. */
 static void outcomes(size_t work) {
     const uint32_t sizes[] = {1, 7, 1000, 4294967295u};
     struct result wanted, result;
-    struct jt_used first = {0, 0, 0};
+    struct jt_used first = {0, 0, 0, 0, 0};
     load(work);
     clear(&wanted);
     wanted.answer = whole(works[work].budget, wanted.out, ROOM);
@@ -127,7 +137,8 @@ static void outcomes(size_t work) {
         first = i == 0 ? used : first;
         expect(equal(used, first), "what a run has used, by slices of any size");
         expect(used.fuel <= works[work].budget.fuel && used.output <= works[work].budget.output &&
-                   used.depth <= works[work].budget.depth,
+                   used.depth <= works[work].budget.depth && used.size <= works[work].budget.size &&
+                   used.nesting <= works[work].budget.nesting,
                "no run uses more than its budget");
         expect(jt_run_advance(&run, 5) == JT_DONE && equal(jt_run_used(&run), first),
                "a run that has ended stays so");
@@ -147,7 +158,7 @@ static void outcomes(size_t work) {
 static void stops(size_t work) {
     load(work);
     const int64_t before = jt_memory_held();
-    struct jt_used last = {0, 0, 0};
+    struct jt_used last = {0, 0, 0, 0, 0};
     bool going = true;
     for (uint32_t steps = 0; going; steps++) {
         struct jt_run run = {0};
@@ -157,7 +168,8 @@ static void stops(size_t work) {
         const struct jt_used used = jt_run_used(&run);
         going = status == JT_GOING;
         expect(going || status == JT_DONE, "a slice");
-        expect(last.fuel <= used.fuel && last.output <= used.output && last.depth <= used.depth,
+        expect(last.fuel <= used.fuel && last.output <= used.output && last.depth <= used.depth &&
+                   last.size <= used.size && last.nesting <= used.nesting,
                "what is used grows");
         last = used;
         clear(&result);
@@ -206,7 +218,7 @@ static void handles(void) {
     clear(&result);
     expect(jt_run_advance(&run, 1) == JT_USAGE && !run.full, "no run to advance");
     expect(is(jt_run_outcome(&run, result.out, ROOM), JT_USAGE, JT_NOT_HELD), "no run");
-    expect(equal(jt_run_used(&run), (struct jt_used){0, 0, 0}), "no run has used anything");
+    expect(equal(jt_run_used(&run), (struct jt_used){0, 0, 0, 0, 0}), "no run has used anything");
     expect(jt_run_start(&no_image, &context, budget, &run) == JT_USAGE && !run.full, "no image");
     expect(jt_run_start(&image, &no_context, budget, &run) == JT_USAGE && !run.full,
            "no context");
@@ -228,7 +240,7 @@ static void handles(void) {
     expect(jt_run_advance(no_run, 1) == JT_USAGE && context.full, "a context is no run");
     expect(is(jt_run_outcome(no_run, result.out, ROOM), JT_USAGE, JT_NOT_HELD) && context.full,
            "a context has no outcome");
-    expect(equal(jt_run_used(no_run), (struct jt_used){0, 0, 0}) && context.full,
+    expect(equal(jt_run_used(no_run), (struct jt_used){0, 0, 0, 0, 0}) && context.full,
            "a context has used nothing");
     expect(is(jt_outcome_read((struct jt_outcome *)&run, result.out, ROOM), JT_USAGE, JT_NOT_HELD),
            "a run is no outcome");

@@ -193,7 +193,7 @@ def explained_rows(*files):
 def refused_folders():
     """Returns the rows of refused templates of usual length: sources, a folder of them, and what is wanted."""
     for asked, sources, options, wanted in explained_rows():
-        if wanted != "ok" and len("".join(sources.values())) <= 20_000:
+        if wanted.partition("\n")[0] != "ok" and len("".join(sources.values())) <= 20_000:
             folder = Folder("/nowhere", jt.Options(**options))
             for name, source in sources.items():
                 folder.put(name, source)

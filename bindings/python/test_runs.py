@@ -415,7 +415,7 @@ class Deadlines(Holding):
             for call in (image.run, image.run_report, lambda **it: asyncio.run(image.arun(**it))):
                 with self.assertRaises(TimeoutError) as caught:
                     call(timeout=timeout)
-                self.assertEqual(caught.exception.used, Used(0, 0, 0))
+                self.assertEqual(caught.exception.used, Used(0, 0, 0, 0, 0))
 
     def test_a_run_that_ends_before_its_deadline(self):
         image = Template("t", {"t": ROWS}).compile()
@@ -481,7 +481,7 @@ class Deadlines(Holding):
         self.assertLess(elapsed.seconds, LATE)
 
     def test_the_errors_can_be_pickled(self):
-        for error in (TimeoutError(Used(7, 8, 9)), Cancelled(Used(1, 2, 3))):
+        for error in (TimeoutError(Used(7, 8, 9, 6, 5)), Cancelled(Used(1, 2, 3, 4, 5))):
             for protocol in range(2, pickle.HIGHEST_PROTOCOL + 1):
                 other = pickle.loads(pickle.dumps(error, protocol))
                 self.assertEqual((type(other), vars(other)), (type(error), vars(error)))
@@ -690,7 +690,7 @@ class Uses(Holding):
 
     def least(self, image, context, name):
         """Returns the least number of a budget with which a run ends with its text."""
-        low, high = 0, 1 << 20
+        low, high = 0, 255 if name == "nesting" else 1 << 20
         while low < high:
             middle = (low + high) // 2
             try:
@@ -702,11 +702,23 @@ class Uses(Holding):
 
     def test_the_least_budget_is_what_was_used(self):
         calls = "{% macro m(x) %}{% if x %}{{ m(x - 1) }}{% endif %}a{% endmacro %}{{ m(n) }}"
-        for source, n in ((ROWS, 0), (ROWS, 50), (calls, 0), (calls, 9), ("", 0), ("é" * 99, 0)):
+        lists = "{% set a = [[1, [n]], n] %}{% set b = {'k': a} %}{{ b.k[1] }}"
+        given = "{% for x in n %}{{ x }}{% endfor %}"
+        for source, n in (
+            (ROWS, 0),
+            (ROWS, 50),
+            (calls, 0),
+            (calls, 9),
+            ("", 0),
+            ("é" * 99, 0),
+            (lists, 7),
+            (given, ["a" * 40, "b"]),
+            (given, [[]] * 0),
+        ):
             image, context = Template("t", {"t": source}).compile(), Context({"n": n})
             report = image.run_report(context)
             self.assertEqual(report.text, image.run(context))
-            for name in ("fuel", "output", "depth"):
+            for name in ("fuel", "output", "depth", "size", "nesting"):
                 least = self.least(image, context, name)
                 self.assertEqual(getattr(report.used, name), least, (name, source))
 
@@ -715,12 +727,22 @@ class Uses(Holding):
         wanted = image.run_report(context).used
         for steps in SIZES:
             with image.start(context) as run:
-                self.assertEqual(run.used, Used(0, 0, 0))
+                self.assertEqual(run.used, Used(0, 0, 0, 1, 0))
                 before = 0
                 while run.advance(steps):
                     self.assertGreaterEqual(run.used.fuel, before + steps)
                     before = run.used.fuel
                 self.assertEqual(run.used, wanted)
+
+    def test_what_is_tested_before_the_start(self):
+        image = Template("t", {"t": "{{ a }}"}).compile()
+        context = {"a": "x" * 9, "unnamed": [[["y" * 99]]]}
+        with image.start(context) as run:
+            self.assertEqual(run.used, Used(0, 0, 0, 10, 0))
+        with image.start(context, Budget(size=9)) as run:
+            self.assertEqual(run.used, Used(0, 0, 0, 0, 0))
+        with image.start({"a": [["x"]]}) as run:
+            self.assertEqual(run.used, Used(0, 0, 0, 4, 2))
 
     def test_the_report_of_an_error(self):
         image = Template("t", {"t": "abc{{ 1 // n }}"}).compile()
@@ -742,7 +764,8 @@ class Uses(Holding):
         report = Template("t", {"t": "{{ n }}"}).compile().run_report({"n": "é"})
         self.assertEqual(report, Report("é", report.used))
         self.assertEqual(pickle.loads(pickle.dumps(report)), report)
-        self.assertEqual(str(Used(3021, 7306, 2)), "fuel 3021 depth 2 output 7306")
+        used = "fuel 3021 depth 2 output 7306 size 864 nesting 3"
+        self.assertEqual(str(Used(3021, 7306, 2, 864, 3)), used)
 
 
 if __name__ == "__main__":

@@ -7,14 +7,15 @@ _jt() {
     COMPREPLY=()
     if ((COMP_CWORD == 1)); then
         mapfile -t COMPREPLY < <(compgen -W \
-            'compile explain check show run render turns upgrade --help --version' -- "$current")
+            'compile explain needs check show run render turns upgrade --help --version' -- "$current")
         return
     fi
     case $command in
-        compile) options=$templates ;;
+        compile | needs) options=$templates ;;
         check | show | upgrade) ;;
-        run) options=$budget ;;
-        explain | render) options="$templates $budget" ;;
+        run) options="$budget --report" ;;
+        explain) options="$templates $budget" ;;
+        render) options="$templates $budget --report" ;;
         turns) options="--slice $budget" ;;
         *) return ;;
     esac
@@ -37,9 +38,9 @@ _jt() {
         esac
     done
     compopt -o filenames 2> /dev/null
-    if [[ $command == @(compile|explain|render) ]] && ((position == 0)); then
+    if [[ $command == @(compile|explain|needs|render) ]] && ((position == 0)); then
         mapfile -t COMPREPLY < <(compgen -d -- "$current")
-    elif [[ $command == @(compile|explain|render) ]] && ((position == 1)); then
+    elif [[ $command == @(compile|explain|needs|render) ]] && ((position == 1)); then
         mapfile -t COMPREPLY < <(cd -- "$directory" 2> /dev/null && compgen -f -- "$current")
     else
         mapfile -t COMPREPLY < <(compgen -f -- "$current")

@@ -31,8 +31,8 @@ pub enum Progress {
 /// let image = Templates::new(&[("t", "{{ n }}")]).compile("t", jt::Options::default())?;
 /// let mut run = image.start(&Context::from_json(r#"{"n": 42}"#)?, Budget::default())?;
 /// run.advance(100)?;
-/// assert_eq!(run.used(), Used { fuel: 3, output: 2, depth: 0 });
-/// assert_eq!(run.used().to_string(), "fuel 3 depth 0 output 2");
+/// assert_eq!(run.used(), Used { fuel: 3, output: 2, depth: 0, size: 1, nesting: 0 });
+/// assert_eq!(run.used().to_string(), "fuel 3 depth 0 output 2 size 1 nesting 0");
 /// # Ok::<(), jt::Error>(())
 /// ```
 #[derive(Clone, Copy, Debug, Default, PartialEq, Eq)]
@@ -44,10 +44,16 @@ pub struct Used {
     pub output: u64,
     /// The most calls that were open at once.
     pub depth: u32,
+    /// The greatest size of a value that was tested against its limit, and 0 if none was. These are
+    /// the values of the context that the template names and the values that instructions push.
+    pub size: u32,
+    /// The greatest nesting of these values.
+    pub nesting: u8,
 }
 impl fmt::Display for Used {
     fn fmt(&self, f: &mut fmt::Formatter<'_>) -> fmt::Result {
-        write!(f, "fuel {} depth {} output {}", self.fuel, self.depth, self.output)
+        let Used { fuel, output, depth, size, nesting } = self;
+        write!(f, "fuel {fuel} depth {depth} output {output} size {size} nesting {nesting}")
     }
 }
 

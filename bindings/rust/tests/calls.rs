@@ -657,14 +657,16 @@ fn the_least_budget_is_what_was_used() {
     let mut run = image.start(&context, Budget::default()).unwrap();
     assert_eq!(run.used(), Used::default());
     run.run_while(|| true).unwrap();
-    let Used { fuel, output, depth } = run.used();
-    assert_eq!(depth, 5);
-    let least = Budget { fuel, output, depth, ..Budget::default() };
+    let Used { fuel, output, depth, size, nesting } = run.used();
+    // The text that is printed last has five bytes.
+    assert_eq!((depth, size, nesting), (5, 6, 0));
+    let least = Budget { fuel, output, depth, size, nesting, ..Budget::default() };
     assert_eq!(image.run(&context, least), text("aaaaa"));
     for (less, spent) in [
         (Budget { fuel: fuel - 1, ..least }, Spent::Fuel),
         (Budget { output: output - 1, ..least }, Spent::Output),
         (Budget { depth: depth - 1, ..least }, Spent::Depth),
+        (Budget { size: size - 1, ..least }, Spent::Size),
     ] {
         assert_eq!(image.run(&context, less), Ok(Outcome::Spent(spent)));
     }

@@ -17,7 +17,8 @@ use Rattle.clap.specs.declared.builder.ValueParser.{ValueParser}
 use Rattle.clap.specs.declared.builder.ValueParser.TheVariants as parser
 use Rattle.clap.proofs.OnLiterals.{clap_on_literals}
 use Rattle.clap.proofs.WalkLemmas.{both}
-use Rattle.jt_args.specs.Line.{program_app, HasNumbers, HasSlice, HasSwitches, IsClear, IsNumber, IsSwitch}
+use Rattle.jt_args.specs.Line.{program_app, HasNumbers, HasReport, HasSlice, HasSwitches, IsClear, IsNumber}
+use Rattle.jt_args.specs.Line.{IsSwitch}
 use Rattle.jt_args.proofs.Passed.{HasParser, IsRead, found, found_pass, neither, one_read}
 use Rattle.jt_args.proofs.Texts.{long_text, short_text, slice_text, switch_text}
 
@@ -217,9 +218,14 @@ strictly : are_checked (codes "strict") is_switch (built program_app).subs ≡ t
 unfolding clap_on_literals is_switch
 strictly = refl
 
+report : are_checked (codes "report") is_switch (built program_app).subs ≡ true
+unfolding clap_on_literals is_switch
+report = refl
+
 -- Each option of the command that the line gives has a text of its kind.
 abbrev pub HaveAll : Option (Text × List Row) → Type 0
 HaveAll o = IfSome o (λ c. HasNumbers c.1) × IfSome o (λ c. HasSwitches c.1) × IfSome o (λ c. HasSlice c.1)
+    × IfSome o (λ c. HasReport c.1)
 
 pub checked : (words : List Text) → IsClear words → HaveAll (subcommand_of program_app words)
 checked words e =
@@ -230,6 +236,7 @@ checked words e =
     (switch (codes "trim-blocks") words trim e) (switch (codes "lstrip-blocks") words strip e)
     (switch (codes "keep-trailing-newline") words newline e)
     (switch (codes "no-autoescape") words plain e) (switch (codes "strict") words strictly e) (slice words e)
+    (switch (codes "report") words report e)
   where
     go : (o : Option (Text × List Row))
         → IfSome o (λ c. IfSome (one_of (codes "fuel") c.1) (IsNumber 64))
@@ -243,6 +250,7 @@ checked words e =
         → IfSome o (λ c. IfSome (one_of (codes "no-autoescape") c.1) IsSwitch)
         → IfSome o (λ c. IfSome (one_of (codes "strict") c.1) IsSwitch)
         → IfSome o (λ c. IfSome (one_of (codes "slice") c.1) IsSliced)
+        → IfSome o (λ c. IfSome (one_of (codes "report") c.1) IsSwitch)
         → HaveAll o
-    go None f d o s n t l k a u i = (tt, tt, tt)
-    go (Some c) f d o s n t l k a u i = ((f, d, o, s, n), (t, l, k, a, u), i)
+    go None f d o s n t l k a u i r = (tt, tt, tt, tt)
+    go (Some c) f d o s n t l k a u i r = ((f, d, o, s, n), (t, l, k, a, u), i, r)

@@ -9,7 +9,7 @@ use Rattle.clap.specs.Simple.{names_of, rows_at}
 use Rattle.clap.specs.Walk.{Names, answers_to, nothing_held, stop_after, Held}
 use Rattle.clap.proofs.OnLiterals.{clap_on_literals}
 use Rattle.jt_args.specs.Line.{program_app, compile_app, explain_app, check_app, show_app, run_app, render_app}
-use Rattle.jt_args.specs.Line.{turns_app, upgrade_app, IsClear, IsKnown}
+use Rattle.jt_args.specs.Line.{needs_app, turns_app, upgrade_app, IsClear, IsKnown}
 use Rattle.jt_args.proofs.Passed.{neither}
 
 -- A command is required, so a line without a fault has one.
@@ -63,7 +63,8 @@ built_sub a = built_leaf (inherited (with_leaf_noted (marked_built program_app.t
 abbrev shapes : List Shape
 shapes =
     built_sub compile_app ∷ built_sub explain_app ∷ built_sub check_app ∷ built_sub show_app ∷ built_sub run_app
-    ∷ built_sub render_app ∷ built_sub turns_app ∷ built_sub upgrade_app ∷ []
+    ∷ built_sub render_app ∷ built_sub turns_app ∷ built_sub upgrade_app
+    ∷ built_sub needs_app ∷ []
 
 all_built : (built program_app).subs ≡ shapes
 unfolding clap_on_literals
@@ -78,16 +79,16 @@ wants_command : (built program_app).top.subcommand_required ≡ true
 unfolding clap_on_literals
 wants_command = refl
 
--- One of eight propositions holds, since the ninth case is impossible.
-of_eight : (A B C D E F G H : Type 0) → A ⊎ (B ⊎ (C ⊎ (D ⊎ (E ⊎ (F ⊎ (G ⊎ (H ⊎ ⊥)))))))
-    → A ⊎ (B ⊎ (C ⊎ (D ⊎ (E ⊎ (F ⊎ (G ⊎ H))))))
-of_eight a0 a1 a2 a3 a4 a5 a6 a7 a8 = search (arith, rules)
+-- One of nine propositions holds, since the tenth case is impossible.
+of_nine : (A B C D E F G H I : Type 0) → A ⊎ (B ⊎ (C ⊎ (D ⊎ (E ⊎ (F ⊎ (G ⊎ (H ⊎ (I ⊎ ⊥))))))))
+    → A ⊎ (B ⊎ (C ⊎ (D ⊎ (E ⊎ (F ⊎ (G ⊎ (H ⊎ I)))))))
+of_nine a0 a1 a2 a3 a4 a5 a6 a7 a8 a9 = search (arith, rules)
 
 pub named : (words : List Text) → IsClear words → IsKnown (option_map (λ p. p.0) (subcommand_of program_app words))
 named words e =
     let a : App = built program_app in
     let line : List Text = argument_words program_app words in
     let stop : Option (Text × List Text) = stop_after a.top.rules (names_of a) line in
-    of_eight _ _ _ _ _ _ _ _ (met a shapes stop all_built
+    of_nine _ _ _ _ _ _ _ _ _ (met a shapes stop all_built
     (level_clear a.top (names_of a) nothing_held line (is_some (entered a stop)) (entered_fault a stop) wants_command
     e))

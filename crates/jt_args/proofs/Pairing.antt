@@ -10,6 +10,7 @@ use Rattle.jt_args.specs.declared.jobs.Command.{Command}
 use Rattle.jt_args.specs.declared.jobs.Job.{Job}
 use Rattle.jt_scan.specs.declared.Options.{Options}
 use Rattle.jt_args.specs.declared.jobs.Pair.{Pair}
+use Rattle.jt_args.specs.declared.jobs.UseReport.{UseReport}
 use Rattle.jt_args.specs.Line.{ArePaired, ComeInPairs, IsAsked, IsCommand, IsKnown, words_of_pairs}
 use Rattle.std.specs.Prelude.{IfSome, slice_get, string_bytes, unwrap_or}
 
@@ -33,14 +34,15 @@ of_other rows name other e d turns = absurd (d (sym e ∙ turns))
 apart : (s : Text) → unwrap_or (slice_get s 0) 0 ≢ 116 → s ≢ codes "turns"
 apart s d e = d (ap (λ (t : Text). unwrap_or (slice_get t 0) 0) e)
 
-paired : (name : Text) (rows : List Row) (k : Command) (o : Options) (b : Budget) (n : ℕ) → IsCommand name rows k o b n
+paired : (name : Text) (rows : List Row) (k : Command) (o : Options) (b : Budget) (n : ℕ) (r : UseReport)
+    → IsCommand name rows k o b n r
     → ArePaired (Some (name, rows))
-paired name rows k o b n a6 = search (arith, rules, of_other, apart, come)
+paired name rows k o b n r a7 = search (arith, rules, of_other, apart, come)
 
 -- The words of a job that is requested come in pairs.
 pub paired_of : (found : Option (Text × List Row)) (j : Job) → IsAsked found j → ArePaired found
 paired_of None j h = absurd h
-paired_of (Some c) j h = paired c.0 c.1 j.command j.options j.budget j.slice h
+paired_of (Some c) j h = paired c.0 c.1 j.command j.options j.budget j.slice j.report h
 
 -- The words of one more pair are appended.
 pub one_pair_more : (ps : List Pair) (p : Pair)
@@ -90,11 +92,12 @@ pub come_of : (words : List (Bor Text)) (all : List Text) → texts words ≡ al
     → (0 < length words) × (length words % 2 ≡ 0)
 come_of words all e paired = search (arith, rules, length-map)
 
--- A known name is one of eight.
+-- A known name is one of nine.
 pub no_other : (o : Option Text) (name : Text) → o ≡ Some name → IsKnown o → name ≢ codes "compile"
     → name ≢ codes "explain" → name ≢ codes "check" → name ≢ codes "show"
-    → name ≢ codes "run" → name ≢ codes "render" → name ≢ codes "turns" → name ≢ codes "upgrade" → ⊥
-no_other o name same known a b c d e f g h = search (arith, rules)
+    → name ≢ codes "run" → name ≢ codes "render" → name ≢ codes "turns" → name ≢ codes "upgrade"
+    → name ≢ codes "needs" → ⊥
+no_other o name same known a b c d e f g h i = search (arith, rules)
 
 pub no_name : (o : Option Text) → o ≡ None → IsKnown o → ⊥
 no_name o none known = search (arith, rules)

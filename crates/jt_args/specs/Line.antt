@@ -16,6 +16,8 @@ use Rattle.jt_args.specs.declared.jobs.Command.{Command}
 use Rattle.jt_args.specs.declared.jobs.Command.TheVariants as command
 use Rattle.jt_args.specs.declared.jobs.Job.{Job}
 use Rattle.jt_args.specs.declared.jobs.Pair.{Pair}
+use Rattle.jt_args.specs.declared.jobs.UseReport.{UseReport}
+use Rattle.jt_args.specs.declared.jobs.UseReport.TheVariants as use_report
 use Rattle.jt_args.specs.declared.jobs.JobError.{JobError}
 use Rattle.jt_args.specs.declared.jobs.JobError.TheVariants as job_error
 
@@ -50,6 +52,10 @@ with_flags a = with_rule (with_rule (with_rule (with_rule (with_rule a
     (flag_rule (codes "keep-trailing-newline"))) (flag_rule (codes "no-autoescape")))
     (flag_rule (codes "strict"))
 
+-- A command with the flag for what its run used of the budget.
+abbrev pub with_report : App → App
+with_report a = with_rule a (flag_rule (codes "report"))
+
 -- The word for a context, which may be left out.
 abbrev pub context_rule : Rule
 context_rule = new_rule (codes "CONTEXT")
@@ -75,13 +81,14 @@ show_app = with_rule (new_app (codes "show")) (word_rule (codes "IMAGE"))
 -- The command `run IMAGE [CONTEXT]`.
 abbrev pub run_app : App
 run_app =
-    with_budget
-    (with_rule (with_rule (new_app (codes "run")) (word_rule (codes "IMAGE"))) context_rule)
+    with_report (with_budget
+    (with_rule (with_rule (new_app (codes "run")) (word_rule (codes "IMAGE"))) context_rule))
 
 -- The command `render DIR NAME [CONTEXT]`.
 abbrev pub render_app : App
-render_app = with_budget (with_flags (with_rule (with_rule (with_rule (new_app (codes "render"))
-    (word_rule (codes "DIR"))) (word_rule (codes "NAME"))) context_rule))
+render_app =
+    with_report (with_budget (with_flags (with_rule (with_rule (with_rule (new_app (codes "render"))
+    (word_rule (codes "DIR"))) (word_rule (codes "NAME"))) context_rule)))
 
 -- The words for images and contexts, in any number.
 abbrev pub pairs_rule : Rule
@@ -102,11 +109,16 @@ upgrade_app =
     with_rule (with_rule (new_app (codes "upgrade")) (word_rule (codes "IN")))
     (word_rule (codes "OUT"))
 
+-- The command `needs DIR NAME`.
+abbrev pub needs_app : App
+needs_app =
+    with_flags (with_rule (with_rule (new_app (codes "needs")) (word_rule (codes "DIR"))) (word_rule (codes "NAME")))
+
 -- The program: a command, then the words and options of that command.
 abbrev pub program_app : App
 program_app = let a = new_app (codes "jt") in
     with_subcommand (with_subcommand (with_subcommand (with_subcommand (with_subcommand
-    (with_subcommand (with_subcommand (with_subcommand (record a {
+    (with_subcommand (with_subcommand (with_subcommand (with_subcommand (record a {
       top = record a.top {
         no_binary_name = true;
         has_version = true;
@@ -114,7 +126,7 @@ program_app = let a = new_app (codes "jt") in
         subcommand_required = true;
       };
     }) compile_app.top) explain_app.top) check_app.top) show_app.top) run_app.top)
-    render_app.top) turns_app.top) upgrade_app.top
+    render_app.top) turns_app.top) upgrade_app.top) needs_app.top
 
 -- The line has no fault.
 abbrev pub IsClear : List Text → Type 0
@@ -199,6 +211,15 @@ usual_options = record {
   strict = false;
 }
 
+-- Whether what a run used is written.
+abbrev pub is_written : UseReport → Bool
+is_written use_report.Omitted = false
+is_written use_report.Written = true
+
+-- What a run used is written only if the line has the flag for it.
+abbrev pub IsReport : List Row → UseReport → Type 0
+IsReport rows report = IsFlag (one_of (codes "report") rows) (is_written report)
+
 -- The text of a word, or the empty text if the line lacks the word.
 abbrev pub word_of : Text → List Row → Text
 word_of name rows = unwrap_or (first_of name rows) []
@@ -213,53 +234,76 @@ words_of_pairs [] = []
 words_of_pairs (p ∷ ps) = string_bytes p.image ∷ string_bytes p.context ∷ words_of_pairs ps
 
 -- The command of this name, with its words. Whatever it does not take has its default.
-abbrev pub IsCommand : Text → List Row → Command → Options → Budget → ℕ → Type 0
-IsCommand name rows (command.Compile dir template out) options budget slice = (name ≡ codes "compile")
+abbrev pub IsCommand : Text → List Row → Command → Options → Budget → ℕ → UseReport → Type 0
+IsCommand name rows (command.Compile dir template out) options budget slice report = (name ≡ codes "compile")
     × (string_bytes dir ≡ word_of (codes "DIR") rows)
     × (string_bytes template ≡ word_of (codes "NAME") rows)
     × (string_bytes out ≡ word_of (codes "OUT") rows)
     × IsOptions rows options × (budget ≡ usual_budget) × (slice ≡ usual_slice)
-IsCommand name rows (command.Explain dir template context) options budget slice = (name ≡ codes "explain")
+    × (report ≡ use_report.Omitted)
+IsCommand name rows (command.Explain dir template context) options budget slice report = (name ≡ codes "explain")
     × (string_bytes dir ≡ word_of (codes "DIR") rows)
     × (string_bytes template ≡ word_of (codes "NAME") rows) × IsContext rows context
     × IsOptions rows options × IsBudget rows budget × (slice ≡ usual_slice)
-IsCommand name rows (command.Check image) options budget slice = (name ≡ codes "check")
+    × (report ≡ use_report.Omitted)
+IsCommand name rows (command.Check image) options budget slice report = (name ≡ codes "check")
     × (string_bytes image ≡ word_of (codes "IMAGE") rows)
     × (options ≡ usual_options) × (budget ≡ usual_budget) × (slice ≡ usual_slice)
-IsCommand name rows (command.Show image) options budget slice = (name ≡ codes "show")
+    × (report ≡ use_report.Omitted)
+IsCommand name rows (command.Show image) options budget slice report = (name ≡ codes "show")
     × (string_bytes image ≡ word_of (codes "IMAGE") rows)
     × (options ≡ usual_options) × (budget ≡ usual_budget) × (slice ≡ usual_slice)
-IsCommand name rows (command.Run image context) options budget slice = (name ≡ codes "run")
+    × (report ≡ use_report.Omitted)
+IsCommand name rows (command.Run image context) options budget slice report = (name ≡ codes "run")
     × (string_bytes image ≡ word_of (codes "IMAGE") rows) × IsContext rows context
     × (options ≡ usual_options) × IsBudget rows budget × (slice ≡ usual_slice)
-IsCommand name rows (command.Render dir template context) options budget slice = (name ≡ codes "render")
+    × IsReport rows report
+IsCommand name rows (command.Render dir template context) options budget slice report = (name ≡ codes "render")
     × (string_bytes dir ≡ word_of (codes "DIR") rows)
     × (string_bytes template ≡ word_of (codes "NAME") rows) × IsContext rows context
     × IsOptions rows options × IsBudget rows budget × (slice ≡ usual_slice)
-IsCommand name rows (command.Turns sessions) options budget slice = (name ≡ codes "turns")
+    × IsReport rows report
+IsCommand name rows (command.Turns sessions) options budget slice report = (name ≡ codes "turns")
     × (words_of_pairs sessions.items ≡ pair_words rows) × (sessions.items ≢ [])
     × (options ≡ usual_options) × IsBudget rows budget × IsSlice rows slice
-IsCommand name rows (command.Upgrade image out) options budget slice = (name ≡ codes "upgrade")
+    × (report ≡ use_report.Omitted)
+IsCommand name rows (command.Upgrade image out) options budget slice report = (name ≡ codes "upgrade")
     × (string_bytes image ≡ word_of (codes "IN") rows)
     × (string_bytes out ≡ word_of (codes "OUT") rows)
     × (options ≡ usual_options) × (budget ≡ usual_budget) × (slice ≡ usual_slice)
+    × (report ≡ use_report.Omitted)
+IsCommand name rows (command.Needs dir template) options budget slice report = (name ≡ codes "needs")
+    × (string_bytes dir ≡ word_of (codes "DIR") rows)
+    × (string_bytes template ≡ word_of (codes "NAME") rows)
+    × IsOptions rows options × (budget ≡ usual_budget) × (slice ≡ usual_slice)
+    × (report ≡ use_report.Omitted)
 
 -- The job that the command of a line requests, by its name and the rows that were found.
 abbrev pub IsAsked : Option (Text × List Row) → Job → Type 0
 IsAsked None job = ⊥
 IsAsked (Some found) job =
-    IsCommand found.0 found.1 job.command job.options job.budget job.slice
+    IsCommand found.0 found.1 job.command job.options job.budget job.slice job.report
 
 -- The name is that of a command.
 abbrev pub IsKnown : Option Text → Type 0
 IsKnown name = (name ≡ Some (codes "compile")) ⊎ ((name ≡ Some (codes "explain"))
     ⊎ ((name ≡ Some (codes "check")) ⊎ ((name ≡ Some (codes "show"))
     ⊎ ((name ≡ Some (codes "run")) ⊎ ((name ≡ Some (codes "render"))
-    ⊎ ((name ≡ Some (codes "turns")) ⊎ (name ≡ Some (codes "upgrade"))))))))
+    ⊎ ((name ≡ Some (codes "turns")) ⊎ ((name ≡ Some (codes "upgrade"))
+    ⊎ (name ≡ Some (codes "needs")))))))))
 
 -- The line names this command.
 abbrev pub Asks : Text → List Text → Type 0
 Asks name words = option_map (λ c. c.0) (subcommand_of program_app words) ≡ Some name
+
+-- The command that was found has the flag for what its run used.
+abbrev pub IsReporting : Option (Text × List Row) → Type 0
+IsReporting None = ⊥
+IsReporting (Some c) = one_of (codes "report") c.1 ≡ Some (codes "true")
+
+-- The line asks for what its run used.
+abbrev pub AsksReport : List Text → Type 0
+AsksReport words = IsReporting (subcommand_of program_app words)
 
 -- P holds, unless the error is lack of memory.
 abbrev pub IfUsage : Type 0 → JobError → Type 0
@@ -298,3 +342,7 @@ HasSwitches rows = IfSome (one_of (codes "trim-blocks") rows) IsSwitch
     × IfSome (one_of (codes "keep-trailing-newline") rows) IsSwitch
     × IfSome (one_of (codes "no-autoescape") rows) IsSwitch
     × IfSome (one_of (codes "strict") rows) IsSwitch
+
+-- The flag for what a run used has the text of a flag, if the line contains it.
+abbrev pub HasReport : List Row → Type 0
+HasReport rows = IfSome (one_of (codes "report") rows) IsSwitch

@@ -153,7 +153,13 @@ const SLICE: Argument = Argument {
     help: "The number of instructions in a turn, 1 to 1000000 [default: 100]",
 };
 
-const COMMANDS: [CommandForm; 8] = [
+const REPORT: Argument = Argument {
+    name: "report",
+    kind: ArgumentKind::Flag,
+    help: "Writes what the run used of its budget to standard error",
+};
+
+const COMMANDS: [CommandForm; 9] = [
     CommandForm {
         name: "compile",
         about: "Compiles a template into an image",
@@ -200,7 +206,7 @@ const COMMANDS: [CommandForm; 8] = [
     CommandForm {
         name: "run",
         about: "Runs an image and prints its text",
-        arguments: &[IMAGE, CONTEXT, FUEL, DEPTH, OUTPUT, SIZE, NESTING],
+        arguments: &[IMAGE, CONTEXT, FUEL, DEPTH, OUTPUT, SIZE, NESTING, REPORT],
     },
     CommandForm {
         name: "render",
@@ -219,6 +225,7 @@ const COMMANDS: [CommandForm; 8] = [
             OUTPUT,
             SIZE,
             NESTING,
+            REPORT,
         ],
     },
     CommandForm {
@@ -230,6 +237,19 @@ const COMMANDS: [CommandForm; 8] = [
         name: "upgrade",
         about: "Writes an image in version 2, whose faults may have places",
         arguments: &[IN, OUT],
+    },
+    CommandForm {
+        name: "needs",
+        about: "Lists the names and templates that a template needs",
+        arguments: &[
+            DIR,
+            NAME,
+            TRIM_BLOCKS,
+            LSTRIP_BLOCKS,
+            KEEP_TRAILING_NEWLINE,
+            NO_AUTOESCAPE,
+            STRICT,
+        ],
     },
 ];
 

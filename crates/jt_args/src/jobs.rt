@@ -51,6 +51,12 @@ pub enum Command {
         image: String,
         out: String,
     },
+    /// Lists what the template `name` from the files of the directory `dir` needs: names of a
+    /// context, and templates.
+    Needs {
+        dir: String,
+        name: String,
+    },
 }
 
 /// The paths of an image and of a context file.
@@ -58,6 +64,15 @@ pub enum Command {
 pub struct Pair {
     pub image: String,
     pub context: String,
+}
+
+/// Whether standard error receives the line of what a run used of its budget.
+#[derive(Clone, Copy, Debug, PartialEq, Eq)]
+pub enum UseReport {
+    /// No line.
+    Omitted,
+    /// One line, after the run has ended.
+    Written,
 }
 
 /// A command with its options and numbers. Options and numbers that the command does not take have
@@ -70,6 +85,8 @@ pub struct Job {
     pub budget: Budget,
     /// The number of instructions in a turn.
     pub slice: u32,
+    /// The report of what the run of `Run` or `Render` used.
+    pub report: UseReport,
 }
 
 /// The reason why a command line requests no job.

@@ -8,6 +8,6 @@ mod grammar;
 mod jobs;
 mod line;
 
-pub use jobs::{Command, DEFAULT, Job, JobError, Pair};
+pub use jobs::{Command, DEFAULT, Job, JobError, Pair, UseReport};
 pub use jt_scan::Options;
 pub use line::job;

@@ -8,12 +8,13 @@ ghost use Rattle.clap.specs.Walk.{texts};
 ghost use Rattle.jt_args.specs.Line.{Takes, IsAsked, IsKnown, IsBudget, IsOptions, IsGiven};
 ghost use Rattle.jt_args.specs.Line.{HasText, IsSlice, IsFlag, IfUsage};
 ghost use Rattle.jt_args.specs.Line.{program_app, word_of};
-ghost use Rattle.jt_args.specs.Line.{HasNumbers, HasSlice, HasSwitches, IsNumber, IsSwitch};
+ghost use Rattle.jt_args.specs.Line.{HasNumbers, HasReport, HasSlice, HasSwitches, IsNumber};
+ghost use Rattle.jt_args.specs.Line.{IsReport, IsSwitch};
 ghost use Rattle.jt_args.specs.Line.{ComeInPairs, ArePaired, pair_words, words_of_pairs};
 
 use crate::grammar::program;
 use crate::jobs;
-use crate::jobs::{DEFAULT, Job, JobError, Pair, SLICE};
+use crate::jobs::{DEFAULT, Job, JobError, Pair, SLICE, UseReport};
 use clap::ArgMatches;
 use clap::error::ErrorKind;
 use jt_budget::Budget;
@@ -50,6 +51,7 @@ fn asked(alloc: Global, matches: &ArgMatches<'_>) -> Result<Job, JobError>
     requires numbers { IfSome (subcommand_rows_of matches.now) (λ p. HasNumbers p.1) }
     requires switches { IfSome (subcommand_rows_of matches.now) (λ p. HasSwitches p.1) }
     requires slice { IfSome (subcommand_rows_of matches.now) (λ p. HasSlice p.1) }
+    requires report { IfSome (subcommand_rows_of matches.now) (λ p. HasReport p.1) }
     ensures ok { IfOk result (IsAsked (subcommand_rows_of matches.now)) }
     ensures err { IfErr result (IfUsage (¬ ArePaired (subcommand_rows_of matches.now))) }
     ensures told { IfErr result HasText }
@@ -63,6 +65,7 @@ fn asked(alloc: Global, matches: &ArgMatches<'_>) -> Result<Job, JobError>
         Some(("render", found)) => render_job(alloc, found),
         Some(("turns", found)) => turns_job(alloc, found),
         Some(("upgrade", found)) => upgrade_job(alloc, found),
+        Some(("needs", found)) => needs_job(alloc, found),
         _ => unreachable!(),
     }
 }
@@ -80,6 +83,7 @@ fn compile_job(alloc: Global, found: &ArgMatches<'_>) -> Result<Job, JobError>
         options: options(found),
         budget: DEFAULT,
         slice: SLICE,
+        report: UseReport::Omitted,
     })
 }
 
@@ -97,6 +101,7 @@ fn explain_job(alloc: Global, found: &ArgMatches<'_>) -> Result<Job, JobError>
         options: options(found),
         budget: budget(found),
         slice: SLICE,
+        report: UseReport::Omitted,
     })
 }
 
@@ -110,6 +115,7 @@ fn check_job(alloc: Global, found: &ArgMatches<'_>) -> Result<Job, JobError>
         options: Options::new(),
         budget: DEFAULT,
         slice: SLICE,
+        report: UseReport::Omitted,
     })
 }
 
@@ -123,11 +129,13 @@ fn show_job(alloc: Global, found: &ArgMatches<'_>) -> Result<Job, JobError>
         options: Options::new(),
         budget: DEFAULT,
         slice: SLICE,
+        report: UseReport::Omitted,
     })
 }
 
 fn run_job(alloc: Global, found: &ArgMatches<'_>) -> Result<Job, JobError>
-    requires { HasNumbers (rows_of (found_of found.now)) }
+    requires numbers { HasNumbers (rows_of (found_of found.now)) }
+    requires report { HasReport (rows_of (found_of found.now)) }
     ensures ok { IfOk result (IsAsked (Some (codes "run", rows_of (found_of found.now)))) }
     ensures err { IfErr result (λ e. e ≡ JobError.NoMemory) }
 {
@@ -138,12 +146,14 @@ fn run_job(alloc: Global, found: &ArgMatches<'_>) -> Result<Job, JobError>
         options: Options::new(),
         budget: budget(found),
         slice: SLICE,
+        report: report(found),
     })
 }
 
 fn render_job(alloc: Global, found: &ArgMatches<'_>) -> Result<Job, JobError>
     requires numbers { HasNumbers (rows_of (found_of found.now)) }
     requires switches { HasSwitches (rows_of (found_of found.now)) }
+    requires report { HasReport (rows_of (found_of found.now)) }
     ensures ok { IfOk result (IsAsked (Some (codes "render", rows_of (found_of found.now)))) }
     ensures err { IfErr result (λ e. e ≡ JobError.NoMemory) }
 {
@@ -155,6 +165,7 @@ fn render_job(alloc: Global, found: &ArgMatches<'_>) -> Result<Job, JobError>
         options: options(found),
         budget: budget(found),
         slice: SLICE,
+        report: report(found),
     })
 }
 
@@ -169,6 +180,23 @@ fn upgrade_job(alloc: Global, found: &ArgMatches<'_>) -> Result<Job, JobError>
         options: Options::new(),
         budget: DEFAULT,
         slice: SLICE,
+        report: UseReport::Omitted,
+    })
+}
+
+fn needs_job(alloc: Global, found: &ArgMatches<'_>) -> Result<Job, JobError>
+    requires { HasSwitches (rows_of (found_of found.now)) }
+    ensures ok { IfOk result (IsAsked (Some (codes "needs", rows_of (found_of found.now)))) }
+    ensures err { IfErr result (λ e. e ≡ JobError.NoMemory) }
+{
+    let dir = String::from_str(alloc, word(found, "DIR"))?;
+    let name = String::from_str(alloc, word(found, "NAME"))?;
+    Ok(Job {
+        command: jobs::Command::Needs { dir, name },
+        options: options(found),
+        budget: DEFAULT,
+        slice: SLICE,
+        report: UseReport::Omitted,
     })
 }
 
@@ -190,6 +218,7 @@ fn turns_job(alloc: Global, found: &ArgMatches<'_>) -> Result<Job, JobError>
         options: Options::new(),
         budget: budget(found),
         slice: slice(found),
+        report: UseReport::Omitted,
     })
 }
 
@@ -245,6 +274,18 @@ fn options(found: &ArgMatches<'_>) -> Options
         keep_trailing_newline: flag(found, "keep-trailing-newline"),
         autoescape: !flag(found, "no-autoescape"),
         strict: flag(found, "strict"),
+    }
+}
+
+/// Returns whether the line asks for what its run used.
+fn report(found: &ArgMatches<'_>) -> UseReport
+    requires { HasReport (rows_of (found_of found.now)) }
+    ensures { IsReport (rows_of (found_of found.now)) result }
+{
+    if flag(found, "report") {
+        UseReport::Written
+    } else {
+        UseReport::Omitted
     }
 }
 

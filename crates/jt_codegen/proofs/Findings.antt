@@ -1,7 +1,7 @@
 -- What an explanation states is true of the entry.
 use Rattle.std.proofs.Common.{◌≡◌, ℕ, true, List, [], ◌∷◌, Option, Some, None, refl, sym, ap, ◌∙◌, subst, inl, inr}
-use Rattle.std.specs.Prelude.{◌≢◌, ◌⊎◌, IsTrue, option_map, string_bytes, Result, Ok, Err, IfOk, IfErr}
-use Rattle.std.specs.Option.{is_none}
+use Rattle.std.specs.Prelude.{◌≢◌, ◌⊎◌, Result, Ok, Err, IfOk, IfErr}
+use Rattle.std.specs.Option.{is_some}
 use Rattle.jt_scan.specs.declared.options.Options.{Options}
 use Rattle.jt_ast.specs.Expressions.{Text}
 use Rattle.jt_chains.specs.Chain.{Namespace, Template}
@@ -11,7 +11,7 @@ use Rattle.jt_checks.specs.Findings as findings
 use Rattle.jt_checks.specs.Findings.{IsFoundAt, IsFoundIn, BreaksAt}
 use Rattle.jt_inherit.specs.Chains.{SourceTexts, IsChain}
 use Rattle.jt_inherit.specs.Findings as inherit_findings
-use Rattle.jt_inherit.specs.Findings.{Says, may_be_bare}
+use Rattle.jt_inherit.specs.Findings.{Says}
 use Rattle.jt_inherit.specs.Lines as lines
 use Rattle.jt_inherit.specs.Refusals as inherit
 use Rattle.jt_inherit.specs.declared.error.ChainError.{ChainError}
@@ -27,7 +27,7 @@ use Rattle.jt_uses.specs.Uses.{Site, body_uses, outside}
 use Rattle.jt_ir.specs.Slots.{Program}
 use Rattle.jt_semantics.specs.Programs.{program}
 use Rattle.jt_codegen.specs.Compiled.{IsOnlyChain}
-use Rattle.jt_codegen.specs.Explaining.{IsBroken, IsChainPlace, IsFinding, IsOfChain, IsPlaceOf, IsRuleOf, IsUnknown}
+use Rattle.jt_codegen.specs.Explaining.{IsBroken, IsFinding, IsOfChain, IsPlaceOf, IsRuleOf}
 use Rattle.jt_codegen.specs.Passed.{error_of}
 use Rattle.jt_codegen.specs.Refusals.{Breaks}
 use Rattle.jt_codegen.specs.internal.Asked.{Asked, IsChainOf, IsFaultOf, IsLinkedOf, IsProgramOf, PassesOf}
@@ -120,39 +120,26 @@ rule_found given entry options c is found broken holds f b =
 
 -- ---- errors of chains
 
--- The template and the line of a place.
-abbrev spot : TagPlace → Text × ℕ
-spot p = (string_bytes p.template, p.line)
-
 module _ (given : SourceTexts) (entry : Text) (options : Options) where
-  -- An error that is said without a place and a subject, and is not that of a source, may be bare.
-  bare : (e : ChainError) → is_none (lines.place e) ≡ true → (p : Option TagPlace)
-      → Says given entry options p None e → IsTrue (may_be_bare e)
-  bare e none None says = says
-  bare e none (Some p) says =
-      let no : is_none (Some (spot p)) ≡ true = subst (λ (o : Option (Text × ℕ)). is_none o ≡ true) says none in
-      absurd (cc)
-
-  no_place : (place : Option TagPlace) → option_map spot place ≡ None → place ≡ None
-  no_place None e = refl
-  no_place (Some p) e = absurd (cc)
-
-  placed : (e : ChainError) (p : Option TagPlace) → Says given entry options p None e → (place : Option TagPlace)
-      (subject : Option Subject) → option_map spot place ≡ lines.place e
-      → IsUnknown given options e subject → IsChainPlace given entry options e place subject
-  placed (chain_error.Scan name x) p says place subject at about =
-      inl (record { source = refl; at = at; about = about })
-  placed (chain_error.Parse name x) p says place subject at about =
-      inl (record { source = refl; at = at; about = about })
-  placed e p says place subject at about =
-      inr (inr (record { bare = bare e refl p says; rule = refl; alone = (no_place place at, about) }))
+  -- An error that is said without a subject is that of a source.
+  of_source : (e : ChainError) → e ≢ chain_error.NoMemory → (p : Option TagPlace)
+      → Says given entry options p None e → is_some (lines.place e) ≡ true
+  of_source (chain_error.Scan name x) some p says = refl
+  of_source (chain_error.Parse name x) some p says = refl
+  of_source chain_error.NoMemory some p says = absurd (some refl)
+  of_source e some None says = absurd (cc)
+  of_source e some (Some p) says = absurd (cc)
 
   -- The finding of an error that has no subject of its own.
   pub alone_found : {E : Type 0} (e : ChainError) → e ≢ chain_error.NoMemory → (p : Option TagPlace)
       → Says given entry options p None e → (r : Result Finding E) → IfOk r (StatesError given options e)
       → IfOk r (IsOfChain given entry options e)
   alone_found e some p says (Ok f) h =
-      record { some = some; states = h.states; placed = placed e p says f.place f.subject h.at h.about }
+      record {
+        some = some;
+        states = h.states;
+        placed = inl (record { source = of_source e some p says; at = h.at; about = h.about });
+      }
   alone_found e some p says (Err x) h = tt
 
 -- The finding of an error of a chain.

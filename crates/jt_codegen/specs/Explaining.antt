@@ -1,6 +1,6 @@
 -- What an explanation says of an entry in a library.
 use Rattle.std.specs.Prelude.{◌≡◌, ◌≢◌, ◌⊎◌, IsTrue, Option, Some, None, option_map, string_bytes}
-use Rattle.std.specs.Option.{is_some, is_none}
+use Rattle.std.specs.Option.{is_some}
 use Rattle.jt_scan.specs.declared.options.Options.{Options}
 use Rattle.jt_ast.specs.Expressions.{Text}
 use Rattle.jt_expr.specs.declared.named.Named.TheVariants as named
@@ -10,7 +10,7 @@ use Rattle.jt_chains.specs.View.{Seen}
 use Rattle.jt_checks.specs.Findings as findings
 use Rattle.jt_image.specs.Code.{Code}
 use Rattle.jt_inherit.specs.Chains.{SourceTexts}
-use Rattle.jt_inherit.specs.Findings.{Says, may_be_bare}
+use Rattle.jt_inherit.specs.Findings.{Says}
 use Rattle.jt_inherit.specs.Lines as errors
 use Rattle.jt_inherit.specs.declared.error.ChainError.{ChainError}
 use Rattle.jt_inherit.specs.declared.error.ChainError.TheVariants as chain_error
@@ -85,12 +85,6 @@ module _ (given : SourceTexts) (options : Options) where
     pub at : option_map (λ p. (string_bytes p.template, p.line)) place ≡ errors.place e
     pub about : IsUnknown e subject
 
--- The error is that of a rule whose tag may not be found, and it stands alone.
-pub record IsBareRule (e : ChainError) (place : Option TagPlace) (subject : Option Subject) : Type 0 where
-  pub bare : IsTrue (may_be_bare e)
-  pub rule : IsTrue (is_none (errors.place e))
-  pub alone : (place ≡ None) × (subject ≡ None)
-
 module _ (given : SourceTexts) (entry : Text) (options : Options) where
   -- What a rule of chains is about. What is said of it and of the place is true.
   pub record IsRulePlace (e : ChainError) (place : Option TagPlace) (subject : Option Subject) : Type 0 where
@@ -98,11 +92,9 @@ module _ (given : SourceTexts) (entry : Text) (options : Options) where
     pub is : subject ≡ Some (v.Chain about)
     pub says : Says given entry options place (Some about) e
 
-  -- The place and the subject of an error of a chain: those of a source, or of a rule of chains. Only
-  -- a rule whose tag may not be found has neither.
+  -- The place and the subject of an error of a chain: those of a source, or of a rule of chains.
   abbrev pub IsChainPlace : ChainError → Option TagPlace → Option Subject → Type 0
-  IsChainPlace e place subject =
-      IsSourcePlace given options e place subject ⊎ (IsRulePlace e place subject ⊎ IsBareRule e place subject)
+  IsChainPlace e place subject = IsSourcePlace given options e place subject ⊎ IsRulePlace e place subject
 
   -- The finding states the error of a chain.
   pub record IsOfChain (e : ChainError) (f : Finding) : Type 0 where

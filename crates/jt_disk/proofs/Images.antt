@@ -8,6 +8,8 @@ use Rattle.jt_budget.specs.declared.Budget.{Budget}
 use Rattle.jt_args.specs.Line.{IsCommand}
 use Rattle.jt_args.specs.declared.Command.{Command}
 use Rattle.jt_args.specs.declared.Command.TheVariants as command
+use Rattle.jt_args.specs.declared.UseReport.{UseReport}
+use Rattle.jt_machine.specs.declared.Used.{Used}
 use Rattle.jt_scan.specs.declared.Options.{Options}
 use Rattle.jt_host.specs.declared.CallError.TheVariants as call_error
 use Rattle.jt_program.specs.declared.Failure.{Failure}
@@ -67,11 +69,11 @@ not_upgrade e = let first : 101 ≡ 117 = ap (λ (t : Word). unwrap_or (slice_ge
 
 -- A line of `compile` that succeeds leaves the image.
 image_held : (old new : Disk) (name : Word) (rows : List Row) (k : Command) (o : Options) (b : Budget) (n : ℕ)
-    (text : String Global)
-    → IsCommand name rows k o b n
+    (r : UseReport) (text : String Global)
+    → IsCommand name rows k o b n r
     → CommandEnds (known_of old) (known_of new) k o b (Ok text) → name ≡ codes "compile" → HoldsImage old new rows
-image_held old new name rows (command.Compile dir template out) o b n text is (only, inl unread) named = absurd unread
-image_held old new name rows (command.Compile dir template out) o b n text is (only, inr compiles) named =
+image_held old new name rows (command.Compile dir template out) o b n r text is (only, inl unread) named = absurd unread
+image_held old new name rows (command.Compile dir template out) o b n r text is (only, inr compiles) named =
     let written = compiles.written.1 in
     record {
       sources = compiles.sources;
@@ -84,19 +86,19 @@ image_held old new name rows (command.Compile dir template out) o b n text is (o
       held = subst (λ (path : List ℕ). file_at new path ≡ Some written.0) is.3 written.1;
       image = subst (λ (t : List ℕ). IsImage compiles.sources t o written.0) is.2 written.2;
     }
-image_held old new name rows (command.Upgrade image out) o b n text is ends named =
+image_held old new name rows (command.Upgrade image out) o b n r text is ends named =
     absurd (two_names (sym named ∙ is.0))
-image_held old new name rows (command.Explain dir template context) o b n text is ends named =
+image_held old new name rows (command.Explain dir template context) o b n r text is ends named =
     absurd (not_compile (sym is.0 ∙ named))
-image_held old new name rows k o b n text is ends named = absurd (cc)
+image_held old new name rows k o b n r text is ends named = absurd (cc)
 
 -- A line of `upgrade` that succeeds leaves the image in version 2.
 upgrade_held : (old new : Disk) (name : Word) (rows : List Row) (k : Command) (o : Options) (b : Budget) (n : ℕ)
-    (text : String Global)
-    → IsCommand name rows k o b n
+    (r : UseReport) (text : String Global)
+    → IsCommand name rows k o b n r
     → CommandEnds (known_of old) (known_of new) k o b (Ok text) → name ≡ codes "upgrade" → HoldsUpgrade old new rows
-upgrade_held old new name rows (command.Upgrade image out) o b n text is (only, inl unread) named = absurd unread
-upgrade_held old new name rows (command.Upgrade image out) o b n text is (only, inr upgrades) named =
+upgrade_held old new name rows (command.Upgrade image out) o b n r text is (only, inl unread) named = absurd unread
+upgrade_held old new name rows (command.Upgrade image out) o b n r text is (only, inr upgrades) named =
     let written = upgrades.written.1 in
     record {
       bytes = upgrades.bytes;
@@ -105,11 +107,11 @@ upgrade_held old new name rows (command.Upgrade image out) o b n text is (only, 
       held = subst (λ (path : List ℕ). file_at new path ≡ Some written.0) is.2 written.1;
       image = written.2;
     }
-upgrade_held old new name rows (command.Compile dir template out) o b n text is ends named =
+upgrade_held old new name rows (command.Compile dir template out) o b n r text is ends named =
     absurd (two_names (sym is.0 ∙ named))
-upgrade_held old new name rows (command.Explain dir template context) o b n text is ends named =
+upgrade_held old new name rows (command.Explain dir template context) o b n r text is ends named =
     absurd (not_upgrade (sym is.0 ∙ named))
-upgrade_held old new name rows k o b n text is ends named = absurd (cc)
+upgrade_held old new name rows k o b n r text is ends named = absurd (cc)
 
 -- No failure has the status 0.
 not_done : (e : Failure) → code_of (status_of e) ≡ 0 → ⊥
@@ -121,22 +123,25 @@ abbrev IsLeft : Disk → Disk → Option (Word × List Row) → Type 0
 IsLeft old new found = IfCompiled old new found × IfUpgraded old new found
 
 ended : (old new : Disk) (found : Option (Word × List Row)) (taken left : Option (List ℕ)) (sink_failed : Bool)
-    (e : Ending) (status : ℕ)
-    → Answers (known_of old) (known_of new) found e
+    (e : Ending) (used : Option Used) (status : ℕ)
+    → Answers (known_of old) (known_of new) found e used
     → Prints taken left sink_failed e status → status ≡ 0 → IsLeft old new found
-ended old new None taken left sink_failed e status answers tells done = (tt, tt)
-ended old new (Some c) taken left sink_failed (Ok text) status answers tells done =
+ended old new None taken left sink_failed e used status answers tells done = (tt, tt)
+ended old new (Some c) taken left sink_failed (Ok text) used status answers tells done =
     let job = answers.job in (
-      image_held old new c.0 c.1 job.command job.options job.budget job.slice text answers.asked answers.ends,
-      upgrade_held old new c.0 c.1 job.command job.options job.budget job.slice text answers.asked answers.ends,
+      image_held old new c.0 c.1 job.command job.options job.budget job.slice job.report text answers.asked
+          answers.ends,
+      upgrade_held old new c.0 c.1 job.command job.options job.budget job.slice job.report text answers.asked
+          answers.ends,
     )
-ended old new (Some c) taken left sink_failed (Err e) status answers tells done =
+ended old new (Some c) taken left sink_failed (Err e) used status answers tells done =
     absurd (not_done e (sym tells.0 ∙ done))
 
 -- A line with the status 0, whose end the program reports, leaves its image.
 pub is_left : (old new : Disk) (found : Option (Word × List Row)) (taken left : Option (List ℕ)) (sink_failed : Bool)
     (status : ℕ)
-    → (e : Ending) × Answers (known_of old) (known_of new) found e × Prints taken left sink_failed e status → status ≡ 0
-    → IsLeft old new found
-is_left old new found taken left sink_failed status (e, answers, tells) done =
-    ended old new found taken left sink_failed e status answers tells done
+    → (e : Ending) × (used : Option Used) × Answers (known_of old) (known_of new) found e used
+    × Prints taken left sink_failed e status
+    → status ≡ 0 → IsLeft old new found
+is_left old new found taken left sink_failed status (e, used, answers, tells) done =
+    ended old new found taken left sink_failed e used status answers tells done

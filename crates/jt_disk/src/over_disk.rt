@@ -1,8 +1,9 @@
 //! Performs lines of the program on a disk whose contents are known in full.
 
-ghost use Rattle.std.specs.Prelude.{◌≡◌, ◌≢◌, ◌⊎◌, ℕ, List, codes};
+ghost use Rattle.std.specs.Prelude.{◌≡◌, ◌≢◌, ◌⊎◌, ℕ, List, Option, codes};
 ghost use Rattle.clap.specs.Walk.{texts};
 ghost use Rattle.clap.specs.Words.{subcommand_of};
+ghost use Rattle.jt_machine.specs.declared.Used.{Used as RunUse};
 ghost use Rattle.jt_args.specs.Line.{Asks, Takes, program_app};
 ghost use Rattle.jt_program.specs.Commands.{Answers, Ending, out_of};
 ghost use Rattle.jt_program.specs.Reports.{Explains, Prints, ReportsUsage};
@@ -41,10 +42,11 @@ pub fn performed<W: Sink, E: Sink>(
     ensures ends { result ≢ 2
         → result ≢ 6
         → (e : Ending)
+        × (used : Option RunUse)
         × Answers (known_of disk.old) (known_of disk.new)
-        (subcommand_of program_app (texts words.now)) e
+        (subcommand_of program_app (texts words.now)) e used
         × Prints (W.taken out.old) (W.taken out.new) (W.failed out.new) e result
-        × Explains (E.taken errors.old) (E.taken errors.new) (E.failed errors.new) e result }
+        × Explains (E.taken errors.old) (E.taken errors.new) (E.failed errors.new) e used result }
     // If the status is 2, standard error takes the usage, a text that is not empty.
     ensures told { result ≡ 2 → ReportsUsage (E.taken errors.old) (E.taken errors.new)
         (E.failed errors.new) }

@@ -72,6 +72,10 @@ pub struct FfiUsed {
     pub output: u64,
     /// The greatest number of calls that were open at one time.
     pub depth: u32,
+    /// The greatest size of a value that was tested against its limit.
+    pub size: u32,
+    /// The greatest nesting of a value that was tested against its limit.
+    pub nesting: u8,
 }
 
 impl FfiUsed {
@@ -83,6 +87,8 @@ impl FfiUsed {
             fuel: used.fuel,
             output: used.output,
             depth: used.depth,
+            size: used.size,
+            nesting: used.nesting,
         }
     }
 
@@ -94,6 +100,8 @@ impl FfiUsed {
             fuel: 0,
             output: 0,
             depth: 0,
+            size: 0,
+            nesting: 0,
         }
     }
 }

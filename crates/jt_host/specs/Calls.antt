@@ -1,17 +1,21 @@
 -- The results of the calls over bytes.
-use Rattle.std.specs.Prelude.{◌≡◌, ◌≢◌, ◌⊎◌, ℕ, List, length, Option, Result, Ok, Err, String, string_bytes, Vec}
+use Rattle.std.specs.Prelude.{◌≡◌, ◌≢◌, ◌⊎◌, ◌++◌, ℕ, List, [], length, Option, None, Result, Ok, Err, String}
+use Rattle.std.specs.Prelude.{string_bytes, Vec}
 use Rattle.std.specs.declared.alloc.Global.{Global}
 use Rattle.std.specs.Str.{IsUtf8}
 use Rattle.jt_scan.specs.declared.Options.{Options}
 use Rattle.jt_value.specs.Pairs.{Pairs}
 use Rattle.jt_value.specs.ContextView.{pairs_of}
 use Rattle.jt_value.specs.declared.Context.{Context}
+use Rattle.jt_chains.specs.View.{Seen}
 use Rattle.jt_inherit.specs.Chains.{SourceTexts}
+use Rattle.jt_inherit.specs.Linked.{IsLinked}
 use Rattle.jt_ast.specs.Expressions.{Text}
 use Rattle.jt_codegen.specs.Compiled.{IsCompiled}
 use Rattle.jt_codegen.specs.Explaining.{IsExplained}
 use Rattle.jt_codegen.specs.Needs.{AreNeeds}
 use Rattle.jt_codegen.specs.declared.Explained.{Explained}
+use Rattle.jt_codegen.specs.declared.Explained.TheVariants as explained
 use Rattle.jt_codegen.specs.declared.Needs.{Needs}
 use Rattle.jt_image.specs.Code.{Code}
 use Rattle.jt_image.specs.Spelling.{spelling}
@@ -29,6 +33,7 @@ use Rattle.jt_host.specs.Explanations.{told, IsExplanationOf}
 use Rattle.jt_host.specs.declared.explanation.Explanation.{Explanation}
 use Rattle.jt_host.specs.Clues.{AreCluesFor}
 use Rattle.jt_host.specs.NeedsText.{needs_text}
+use Rattle.jt_host.specs.Notes.{notes_text}
 use Rattle.jt_host.specs.Rendering.{IsRefused as IsUncompiled, IsRendered}
 use Rattle.jt_contexts.specs.declared.ContextError.TheVariants as context_error
 use Rattle.jt_verify.specs.Refusing.{RefusalHolds}
@@ -195,11 +200,25 @@ module _ (sources : SourceTexts) (entry : Text) (options : Options) where
   RendersTo context b (Err error.NoMemory) = Unit {0}
   RendersTo context b (Err other) = ⊥
 
-  -- The text prints what holds of the entry.
-  abbrev pub IsTold : Text → Type 0
-  IsTold text =
-      (x : Explained) × IsExplained sources entry options x
-      × ((clues : Clues) × AreCluesFor sources options x clues × (text ≡ told sources options clues x))
+  -- The text has the notes on the entry's chain for a context, or without one those on its blocks.
+  abbrev pub HasNotes : Option Pairs → Text → Type 0
+  HasNotes context text =
+      (chain : Seen) × IsLinked sources entry options chain × (text ≡ notes_text chain context)
+
+  -- An entry that compiles has the notes on its blocks, and another one has none.
+  abbrev pub AreNotes : Explained → Text → Type 0
+  AreNotes explained.Compiles text = HasNotes None text
+  AreNotes (explained.Refused f) text = text ≡ []
+
+  -- The text prints what holds of the entry, and the notes.
+  pub record IsTold (text : Text) : Type 0 where
+    pub found : Explained
+    pub holds : IsExplained sources entry options found
+    pub clues : Clues
+    pub shown : AreCluesFor sources options found clues
+    pub notes : Text
+    pub noted : AreNotes found notes
+    pub printed : text ≡ told sources options clues found ++ notes
 
   -- The result is the text of an explanation; it exists unless memory is refused.
   abbrev pub ExplainsTo : Result (String Global) CallError → Type 0

@@ -6,6 +6,7 @@ pub mod Marks
 pub mod Meant
 pub mod Metered
 pub mod NeedsText
+pub mod Notes
 pub mod Reasons
 pub mod Rendering
 pub mod RunExplanations

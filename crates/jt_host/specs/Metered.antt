@@ -9,7 +9,7 @@ use Rattle.jt_image.specs.Code.{Code}
 use Rattle.jt_image.specs.Config as config
 use Rattle.jt_image.specs.Run.{Run}
 use Rattle.jt_codegen.specs.Compiled.{IsCompiled}
-use Rattle.jt_machine.specs.Metering.{metered_after, metered_start}
+use Rattle.jt_machine.specs.Metering.{IsLeast, metered_after, metered_start}
 use Rattle.jt_machine.specs.Session.{outcome_of}
 use Rattle.jt_machine.specs.View.{budget_view, outcome_view}
 use Rattle.jt_machine.specs.declared.Outcome.{Outcome}
@@ -21,13 +21,14 @@ use Rattle.jt_host.specs.declared.call_error.CallError.TheVariants as error
 use Rattle.jt_host.specs.declared.metered_outcome.MeteredOutcome.{MeteredOutcome}
 
 -- The run of a code for a context under a budget ends with this outcome, and all its steps together
--- use this of the budget.
+-- use this of the budget. For a text that is the least budget of it.
 pub record EndsUsing (code : Code) (context : Pairs) (b : config.Budget) (o : config.Outcome) (u : Used) :
     Type 0 where
   pub runs : Run code context b o
   pub steps : ℕ
   pub ends : outcome_of (metered_after steps (metered_start code context b)).session ≡ Some o
   pub used : (metered_after steps (metered_start code context b)).used ≡ u
+  pub least : (text : List ℕ) → o ≡ config.text text → IsLeast code context text u
 
 -- The bytes are an image, whose run for the context ends with this outcome and uses this.
 abbrev pub ImageUses : List ℕ → Pairs → Budget → Outcome → Used → Type 0

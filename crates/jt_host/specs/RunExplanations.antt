@@ -1,6 +1,6 @@
 -- What an explanation prints of a run: the place and the name of a fault, the line of the source and
--- the reason; or the number of the budget that was spent.
-use Rattle.std.specs.Prelude.{◌≡◌, ◌⊎◌, ◌++◌, ℕ, codes, Option, Some, None, Result, Ok, Err, String, string_bytes}
+-- the reason; or the number of the budget that was spent; or `ok` and notes on what is suspicious.
+use Rattle.std.specs.Prelude.{◌≡◌, ◌⊎◌, ◌++◌, ℕ, [], codes, Option, Some, None, Result, Ok, Err, String, string_bytes}
 use Rattle.std.specs.Fmt.{decimal}
 use Rattle.std.specs.declared.alloc.Global.{Global}
 use Rattle.jt_scan.specs.declared.Options.{Options}
@@ -20,7 +20,7 @@ use Rattle.jt_machine.specs.declared.Outcome.{Outcome}
 use Rattle.jt_machine.specs.declared.Outcome.TheVariants as outcome
 use Rattle.jt_machine.specs.declared.Place.{Place}
 use Rattle.jt_turns.specs.Lines.{limit_name}
-use Rattle.jt_host.specs.Calls.{IsTold}
+use Rattle.jt_host.specs.Calls.{HasNotes, IsTold}
 use Rattle.jt_host.specs.Explanations.{place_text, source_text}
 use Rattle.jt_host.specs.Rendering.{IsRefused as IsUncompiled, IsRendered}
 use Rattle.jt_host.specs.declared.call_error.CallError.{CallError}
@@ -86,16 +86,26 @@ ending_lines sources options b (outcome.Spent s) = spent_lines b s
 
 -- ---- what is explained
 
+module _ (sources : SourceTexts) (entry : Text) (options : Options) (context : Pairs) where
+  -- A run that ends with a text has the notes on the entry's chain for the context, and another one has none.
+  abbrev pub AreEndNotes : Outcome → Text → Type 0
+  AreEndNotes (outcome.Text t) text = HasNotes sources entry options (Some context) text
+  AreEndNotes (outcome.Fault f place) text = text ≡ []
+  AreEndNotes (outcome.Spent s) text = text ≡ []
+
 module _ (sources : SourceTexts) (entry : Text) (options : Options) (context : Pairs) (b : Budget) where
   -- The compiler refuses the entry, and the text is its explanation.
   abbrev pub IsToldOfEntry : Text → Type 0
   IsToldOfEntry text =
       ((e : CompileError) × IsUncompiled sources entry options e) × IsTold sources entry options text
 
-  -- The entry compiles, its run for the context ends so, and the text prints that.
-  abbrev pub IsToldOfRun : Text → Type 0
-  IsToldOfRun text =
-      (o : Outcome) × IsRendered sources entry options context b o × (text ≡ ending_lines sources options b o)
+  -- The entry compiles, its run for the context ends so, and the text prints that, and the notes.
+  pub record IsToldOfRun (text : Text) : Type 0 where
+    pub ending : Outcome
+    pub runs : IsRendered sources entry options context b ending
+    pub notes : Text
+    pub noted : AreEndNotes sources entry options context ending notes
+    pub printed : text ≡ ending_lines sources options b ending ++ notes
 
   -- The result is the text of an explanation; it exists unless memory is refused.
   abbrev pub ExplainsRunTo : Result (String Global) CallError → Type 0

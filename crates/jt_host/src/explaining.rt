@@ -1,7 +1,8 @@
 //! Explains, in words, why an entry does not compile.
 
 ghost use Rattle.std.specs.Prelude.{◌≡◌, IfOk, option_map, string_bytes};
-ghost use Rattle.jt_host.specs.Calls.{ExplainsTo, GivesExplanation};
+ghost use Rattle.jt_codegen.specs.declared.Explained.{Explained};
+ghost use Rattle.jt_host.specs.Calls.{AreNotes, ExplainsTo, GivesExplanation};
 ghost use Rattle.jt_host.specs.Explanations as spec;
 ghost use Rattle.jt_host.specs.Templates.{source_of};
 
@@ -10,6 +11,7 @@ use crate::calls::EntryTemplate;
 use crate::clues::{Clues, clues_for};
 use crate::explanation::{Explanation, TemplateRefusal};
 use crate::marks::mark;
+use crate::notes::{linked_notes, with_notes};
 use crate::reasons::{name_of_chain, text_of_scope};
 use crate::refusal_code::code_of;
 use crate::sentences::sentence_of;
@@ -22,6 +24,7 @@ use crate::token_marks::{TokenMark, marks_under, stray_text, token_of};
 use jt_codegen::{CompileError, Explained, Finding, TagPlace, explain};
 use jt_inherit::Library;
 use jt_scan::Options;
+use jt_value::NoMemory;
 use std::alloc::{AllocError, Global};
 
 /// Explains the entry: returns the lines for a person, and the parts of the refusal if it does not
@@ -48,7 +51,8 @@ pub fn explanation_of(alloc: Global, entry: &EntryTemplate<'_>) -> Result<Explan
     }
 }
 
-/// Returns the lines for a person that explain the entry, as [`explanation_of`] has them.
+/// Returns the lines for a person that explain the entry, as [`explanation_of`] has them. If it
+/// compiles, a line follows for each of the first 20 blocks that no template above has.
 ///
 /// # Errors
 ///
@@ -57,8 +61,30 @@ pub fn explained(alloc: Global, entry: &EntryTemplate<'_>) -> Result<String, Cal
     ensures { ExplainsTo (source_of entry.now.templates.now) entry.now.name.now entry.now.options
         result }
 {
-    let Explanation { text, refusal: _ } = explanation_of(alloc, entry)?;
-    Ok(text)
+    let Explanation { text, refusal } = explanation_of(alloc, entry)?;
+    let notes = notes_beside(alloc, entry, &refusal)?;
+    Ok(with_notes(text, &notes)?)
+}
+
+/// Returns the notes on an entry, if it is not refused.
+///
+/// # Errors
+///
+/// `NoMemory` if a growth is refused.
+#[tactic(auto, using(crate::proofs::NotesTold::notes_of_compiled, crate::proofs::NotesTold::notes_of_refused))]
+fn notes_beside(
+    alloc: Global,
+    entry: &EntryTemplate<'_>,
+    refusal: &Option<TemplateRefusal>,
+) -> Result<String, NoMemory>
+    ensures { (found : Explained) → spec.IsRefusalOf found refusal.now → IfOk result (λ notes.
+        AreNotes (source_of entry.now.templates.now) entry.now.name.now entry.now.options found
+        (string_bytes notes)) }
+{
+    match refusal {
+        Some(_) => Ok(String::new(alloc)),
+        None => linked_notes(alloc, entry, None),
+    }
 }
 
 /// Returns the lines and the parts of what is explained.

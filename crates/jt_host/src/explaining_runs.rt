@@ -8,6 +8,7 @@ ghost use Rattle.jt_host.specs.Templates.{source_of};
 use crate::call_error::CallError;
 use crate::calls::EntryTemplate;
 use crate::explaining::{explained, place_text, source_text};
+use crate::notes::{linked_notes, with_notes};
 use crate::rendering::{RenderError, render};
 use crate::templates::Templates;
 use jt_budget::{Budget, Spent};
@@ -15,14 +16,15 @@ use jt_codegen::TagPlace;
 use jt_machine::{Outcome, Place};
 use jt_scan::Options;
 use jt_turns::limit_text;
-use jt_value::{Context, Fault};
+use jt_value::{Context, Fault, NoMemory};
 use std::alloc::{AllocError, Global};
 
 /// Returns what is to say of an entry and of its run for a context, in lines for a person. If the
 /// entry does not compile, the lines are those of `explained`. If its run ends with a text, the
-/// only line is `ok`. Otherwise the first line has the place and the name of the fault, or the
-/// spent number. The line of the source follows if the place is known. The last line states the
-/// reason.
+/// first line is `ok`, and a line follows for each of the first 20 notes: prints that have no value
+/// in the context, and blocks that no template above has. Otherwise the first line has the place
+/// and the name of the fault, or the spent number. The line of the source follows if the place is
+/// known. The last line states the reason.
 ///
 /// # Errors
 ///
@@ -46,9 +48,29 @@ pub fn explained_run(
         Err(RenderError::NoMemory) => return Err(CallError::NoMemory),
         Err(RenderError::Compile(_)) => return explained(alloc, entry),
     };
-    match ending_text(alloc, templates, options, budget, outcome) {
-        Ok(text) => Ok(text),
-        Err(_) => Err(CallError::NoMemory),
+    let notes = notes_after(alloc, entry, context, &outcome)?;
+    let text = ending_text(alloc, templates, options, budget, outcome)?;
+    Ok(with_notes(text, &notes)?)
+}
+
+/// Returns the notes on an entry for a context, if its run ended with a text.
+///
+/// # Errors
+///
+/// `NoMemory` if a growth is refused.
+fn notes_after(
+    alloc: Global,
+    entry: &EntryTemplate<'_>,
+    context: &Context,
+    outcome: &Outcome,
+) -> Result<String, NoMemory>
+    ensures { IfOk result (λ notes. spec.AreEndNotes (source_of entry.now.templates.now)
+        entry.now.name.now entry.now.options (pairs_of context.now) outcome.now
+        (string_bytes notes)) }
+{
+    match outcome {
+        Outcome::Text(_) => linked_notes(alloc, entry, Some(context)),
+        Outcome::Fault(_, _) | Outcome::Spent(_) => Ok(String::new(alloc)),
     }
 }
 
@@ -59,17 +81,17 @@ fn ending_text(
     options: Options,
     budget: Budget,
     outcome: Outcome,
-) -> Result<String, AllocError>
+) -> Result<String, NoMemory>
     ensures { IfOk result (λ text. string_bytes text
         ≡ spec.ending_lines (source_of templates.now) options budget outcome) }
 {
     match outcome {
-        Outcome::Text(_) => String::from_str(alloc, "ok\n"),
+        Outcome::Text(_) => Ok(String::from_str(alloc, "ok\n")?),
         Outcome::Fault(fault, place) => {
             let place = tag_place(place);
-            fault_lines(alloc, templates, options, fault, &place)
+            Ok(fault_lines(alloc, templates, options, fault, &place)?)
         }
-        Outcome::Spent(spent) => spent_lines(alloc, budget, spent),
+        Outcome::Spent(spent) => Ok(spent_lines(alloc, budget, spent)?),
     }
 }
 

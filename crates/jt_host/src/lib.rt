@@ -34,6 +34,7 @@ mod marks;
 mod meant;
 mod metered_outcome;
 mod needs;
+mod notes;
 mod reasons;
 mod refusal_code;
 mod rendering;

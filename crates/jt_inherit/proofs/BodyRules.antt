@@ -6,7 +6,8 @@ use words.{drop_more, map-append, slice_get-get_or, list_any, bytes_eq, among, r
 use words.{templates_at, any_double, Template, blocks_in, lacks_body, lacks_next, block_view, blocks_view, calls_super}
 use words.{of_texts, reflexive, same, once_more, or_from, or_parts, or_right, take_more}
 use words.{take-append-drop, length-map, true_from_ne_false, and_right, both_ways, map_at, Option, None, if◌then◌else◌}
-use words.{comes_again}
+use words.{comes_again, ◌≤◌, subst, times}
+use Rattle.jt_inherit.proofs.RulesHaveTags.{twice_there}
 use Rattle.jt_chains.specs.declared.parts.Block.{Block}
 use Rattle.std.proofs.lemmas.List.{length-take-le}
 use Rattle.std.proofs.lemmas.Option.{get_or_from_slice_get}
@@ -79,6 +80,10 @@ pub none_given : (bs : List BlockBody) (b : BlockBody) (cs : List BlockBody) →
     → b.required ≡ true → lacks_body (bs ++ b ∷ cs) ≡ true
 none_given bs b cs n r = search (arith, rules, any_here, named_new, reflexive)
 
+pub none_required : (bs : List BlockBody) (b : BlockBody) (cs : List BlockBody) → among b.name (names_of bs) ≡ false
+    → b.required ≡ true → is_required (named b.name (bs ++ b ∷ cs)) ≡ true
+none_required bs b cs n r = rw (named_new b.name bs (b ∷ cs) n, reflexive b.name) r
+
 -- ---- bodies that `super()` can call
 
 -- A body of the name that is not required is in the list.
@@ -110,10 +115,15 @@ pub none_next : (bs : List BlockBody) (b : BlockBody) (cs : List BlockBody) → 
     → calls_super b.body ≡ true → lacks_next (bs ++ b ∷ cs) ≡ true
 none_next bs b cs n h = search (arith, rules, none_behind, reflexive, any_here, lacks_front)
 
+pub next_lacking : (bs : List BlockBody) (b : BlockBody) (cs : List BlockBody) → has_given b.name cs ≡ false
+    → calls_super b.body ≡ true → lacks_super (named b.name (bs ++ b ∷ cs)) ≡ true
+next_lacking bs b cs n h =
+    lacks_front b.name bs (b ∷ cs) (rw (reflexive b.name, h, none_behind b.name cs, n) refl)
+
 -- ---- one element more
 
 module _ {X : Type 0} (xs : List X) (i : ℕ) (x : X) (lt : i < length xs) (is : x ≡ get_or xs i x) where
-  from_here : drop i xs ≡ x ∷ drop (i + 1) xs
+  pub from_here : drop i xs ≡ x ∷ drop (i + 1) xs
   from_here = rw (drop_more xs i x lt, ← is)
 
   pub parted : xs ≡ take i xs ++ x ∷ drop (i + 1) xs
@@ -144,6 +154,11 @@ module _ {X : Type 0} (xs : List X) (i : ℕ) (x : X) (lt : i < length xs) (is :
         ap repeated (ap (map f) parted ∙ map-append f (take i xs) _)
         ∙ comes_again of_texts (f x) before _ (is_known n)
 
+    pub repeat_counted : (first_of (f x) 0 (map f xs) ≡ Some i → ⊥) → 2 ≤ times (f x) (map f xs)
+    repeat_counted n =
+        subst (λ l. 2 ≤ times (f x) l) (sym (ap (map f) parted ∙ map-append f (take i xs) _))
+        (twice_there (f x) before _ (is_known n))
+
     pub repeat_goes : first_of (f x) 0 (map f xs) ≡ Some i → repeated before ≡ false
         → repeated (map f (take (i + 1) xs)) ≡ false
     repeat_goes e o =
@@ -166,6 +181,12 @@ module _ (ts : List Template) (xs : List Block) (i : ℕ) (x : Block) (lt : i < 
   body_lacking r e =
       ap lacks_body (parted bs i (block_view ts x) within at)
       ∙ none_given (take i bs) (block_view ts x) _ (is_new bs i (block_view ts x) within at (λ b. b.name) e) r
+
+  pub body_required : x.required ≡ true → first_of x.name.now 0 (names_of bs) ≡ Some i
+      → is_required (named x.name.now bs) ≡ true
+  body_required r e =
+      ap (λ l. is_required (named x.name.now l)) (parted bs i (block_view ts x) within at)
+      ∙ none_required (take i bs) (block_view ts x) _ (is_new bs i (block_view ts x) within at (λ b. b.name) e) r
 
   pub body_goes : (first_of x.name.now 0 (names_of bs) ≡ Some i → x.required ≡ false) → AreGiven (take i bs)
       → AreGiven (take (i + 1) bs)
@@ -204,6 +225,14 @@ module _ (ts : List Template) (xs : List Block) (k i : ℕ) (x : Block) (lt : i 
       ∙ ap lacks_next (map-append (block_view ts) (take i xs) (drop i xs)
       ∙ ap (λ l. blocks_view ts (take i xs) ++ l) after_here)
       ∙ none_next (blocks_view ts (take i xs)) (block_view ts x) (blocks_view ts (drop k xs)) n h
+
+  pub next_lacks : has_given x.name.now (blocks_view ts (drop k xs)) ≡ false
+      → calls_super (block_view ts x).body ≡ true → lacks_super (named x.name.now (blocks_view ts xs)) ≡ true
+  next_lacks n h =
+      ap (λ (l : List Block). lacks_super (named x.name.now (blocks_view ts l))) (sym (take-append-drop i xs))
+      ∙ ap (λ l. lacks_super (named x.name.now l)) (map-append (block_view ts) (take i xs) (drop i xs)
+      ∙ ap (λ l. blocks_view ts (take i xs) ++ l) after_here)
+      ∙ next_lacking (blocks_view ts (take i xs)) (block_view ts x) (blocks_view ts (drop k xs)) n h
 
   pub next_goes : (has_given x.name.now (blocks_view ts (drop k xs)) ≡ false
       → calls_super (block_view ts x).body ≡ false) → HaveNext (blocks_view ts (drop k xs))

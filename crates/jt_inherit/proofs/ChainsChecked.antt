@@ -4,7 +4,7 @@ use Rattle.jt_inherit.proofs.Vocabulary as words
 use words.{◌≡◌, ◌<◌, ℕ, Bool, true, false, List, [], ◌∷◌, map, length, get_or, refl, subst, arith}
 use words.{rules, Some, None, Option, AllByRecursion, slice_get, Text, Body, Options, Sources, Namespace, a_chain}
 use words.{a_library, listed, Template, templates, templates_at, SourceTexts, Seen, sources_of, IsChain, IsFinding}
-use words.{IsNoMemory, Says, may_be_bare, Breaks, Shows, Reaches, KeepsRules, ChainError, ChainFinding, ChainSubject}
+use words.{IsNoMemory, Says, Breaks, Shows, Reaches, KeepsRules, ChainError, ChainFinding, ChainSubject}
 use words.{TagPlace, BreakOne, KeepAll, any_lacks_macros, IsOfRule, RuleAt, BrokenIn, IsBroken, is_whole, and_from}
 use words.{and_right, both_ways, same_namespace, length-map, namespace_view, IsLinked, library_template}
 use Rattle.jt_chains.proofs.TemplatesByIndex.{indices_of_namespace}
@@ -12,6 +12,12 @@ use Rattle.jt_chains.specs.View.{chain_view, its_sources, its_templates, namespa
 use Rattle.jt_chains.specs.declared.chain.Chain.{Chain}
 use Rattle.jt_chains.specs.declared.chain.Namespace as declared
 use Rattle.jt_inherit.specs.internal.Breaking.{BreaksAt, KeepsAt}
+use Rattle.jt_chains.specs.Chain.{Definition}
+use Rattle.jt_chains.specs.Named.{names_view}
+use Rattle.jt_names.specs.FactsOfChains.{IsKnown}
+use Rattle.jt_names.specs.declared.facts.NamespaceFacts.{NamespaceFacts}
+use Rattle.jt_inherit.proofs.RulesHaveTags.{given_tags}
+use words.{◌≤◌, sym, defines, given, tag_count, times}
 use Rattle.jt_inherit.proofs.RulesCarryOver.{no_chain, one_chain}
 use Rattle.jt_inherit.proofs.DiscoveryInvariant.{none_lacking}
 use Rattle.jt_inherit.proofs.NamespaceMembership.{reflexive, same}
@@ -34,6 +40,18 @@ own_templates c i h is items lt at =
     rw items (at_from (its_templates c) h.templates.items _
     (indices_of_namespace (its_templates c) c.namespaces.items i h lt at c.once c.whole))
 
+-- A name that the definitions have twice has two tags.
+pub names_tagged : (c : Chain) (i : ℕ) (f : NamespaceFacts) (us : List Template) (x : Text) → IsKnown c i f
+    → us ≡ templates (its_sources c) (namespace_in c i)
+    → 2 ≤ times x (map (λ g. g.0) (names_view (its_templates c) (namespace_in c i) f.defined.items))
+    → 2 ≤ tag_count (defines x) us
+names_tagged c i f us x known own twice =
+    let told : 2 ≤ times x (map (λ g. g.0) (given (its_sources c) (namespace_in c i))) =
+    subst (λ (gs : List (Text × Definition)). 2 ≤ times x (map (λ g. g.0) gs)) known.all_defined twice in
+    let tagged : 2 ≤ tag_count (defines x) (templates (its_sources c) (namespace_in c i)) =
+    omega (arith, told, given_tags (its_sources c) (namespace_in c i) x) in
+    subst (λ (ts : List Template). 2 ≤ tag_count (defines x) ts) (sym own) tagged
+
 -- ---- the finding of a rule
 
 pub rule_broken : {s : Sources} {escaping : Bool} {h : Namespace} {us : List Template} {e : ChainError}
@@ -42,18 +60,7 @@ rule_broken {s} {escaping} {h} {us} {e} {f} own b r = search (arith, rules)
 
 pub memory_broken : {s : Sources} {escaping : Bool} {h : Namespace} {f : ChainFinding} → IsNoMemory f
     → IsBroken s escaping h f
-memory_broken {s} {escaping} m = rw m (record { broken = tt; said = tt })
-
--- The errors of a broken rule on blocks, macros and imports.
-rule_bare : (s : Sources) (escaping : Bool) (h : Namespace) (e : ChainError) → BreakOne s escaping h e
-    → may_be_bare e ≡ true
-rule_bare s escaping h error.Missing b = absurd b
-rule_bare s escaping h error.BadName b = absurd b
-rule_bare s escaping h error.ExtendsCycle b = absurd b
-rule_bare s escaping h error.ChainTooLong b = absurd b
-rule_bare s escaping h error.NotALibrary b = absurd b
-rule_bare s escaping h error.IncludeCycle b = absurd b
-rule_bare s escaping h e b = refl
+memory_broken {s} {escaping} m = rw m (record { broken = tt; said = refl })
 
 -- A library lacks no macro that it imports, since it imports none.
 chain_alone : (s : Sources) (h : Namespace) → any_lacks_macros s (templates s h) ≡ true → (n : Text) × (h ≡ a_chain n)
@@ -122,15 +129,15 @@ module _ {given : SourceTexts} {entry : Text} {options : Options} {chain : Seen}
     broken_said e p (v.Super x opened) q = rw q.0 (shown (h, here, (is_one, q.1)))
     broken_said e p x q = absurd q
 
-    rule_said : (e : ChainError) → may_be_bare e ≡ true → (p : Option TagPlace) (x : Option ChainSubject)
+    rule_said : (e : ChainError) (p : Option TagPlace) (x : Option ChainSubject)
         → RuleAt (sources_of chain) (templates (sources_of chain) h) p x e → Says given entry options p x e
-    rule_said e bare None None q = bare
-    rule_said e bare None (Some x) q = absurd q
-    rule_said e bare (Some p) None q = absurd q
-    rule_said e bare (Some p) (Some x) q = broken_said e p x q
+    rule_said e None None q = q
+    rule_said e None (Some x) q = absurd q
+    rule_said e (Some p) None q = absurd q
+    rule_said e (Some p) (Some x) q = broken_said e p x q
 
     finds : (f : ChainFinding) → IsBroken (sources_of chain) chain.escaping h f → IsFinding given entry options f
-    finds f broken = search (arith, rules, sources_of, one_breaks, rule_said, rule_bare)
+    finds f broken = search (arith, rules, sources_of, one_breaks, rule_said)
 
 -- ---- the chains and libraries by their indices
 

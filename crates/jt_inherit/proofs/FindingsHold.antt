@@ -136,11 +136,10 @@ module _ {given : SourceTexts} {options : Options} {root : Text} {ts : List Temp
   fault_bare : (n : Text) (e : ChainError) → IsFaultOf e given n options → IsNameless e → may_be_bare e ≡ true
   fault_bare n error.Missing f q = absurd q
   fault_bare n error.BadName f q = absurd q
-  fault_bare n error.ExtendsCycle f q = absurd f
-  fault_bare n error.ChainTooLong f q = absurd f
-  fault_bare n error.NotALibrary f q = absurd f
-  fault_bare n error.IncludeCycle f q = absurd f
-  fault_bare n e f q = refl
+  fault_bare n error.NoMemory f q = refl
+  fault_bare n (error.Scan m x) f q = refl
+  fault_bare n (error.Parse m x) f q = refl
+  fault_bare n e f q = absurd f
 
   -- The place of the first use that passes a test is known if one passes.
   pub said_at : (e : ChainError) (x : ChainSubject) (test : Use → Bool) (xs : List (Text × Site)) → HasUse test xs

@@ -1,5 +1,7 @@
 pub mod Vocabulary
 pub mod RulesCarryOver
+pub mod RulesHaveTags
+pub mod BlocksOfUses
 pub mod BodyRules
 pub mod SourceErrors
 pub mod DiscoveryInvariant

@@ -11,6 +11,11 @@ use words.{bytes_eq, Stmt, Body, Branches, among, body_uses, outside, AreIndices
 use words.{a_library, listed, templates, extends_of, libraries_in, included, needs_by, needs_in}
 use words.{needs_under, needed, by_templates, needed-append, is_import}
 use words.{is_include, leads_to, needs_along, among_cases, only_among, of_texts, reflexive, AllByRecursion}
+use words.{subst, body_view}
+use Rattle.jt_ast.specs.StatementView.{stmt_view}
+use Rattle.jt_ast.specs.declared.statement.Stmt as code
+use words.{and_right, has_call, lacks_call, or_from}
+use Rattle.std.specs.List.{list_all}
 use words.{calls_super_at, is_required, IsLastCall, IsParentAt, extends_at, need, body_at, option_or, file_at}
 use Rattle.std.proofs.Math.Seq.{drop-append-add}
 use Rattle.jt_inherit.proofs.PathsGrow.{next_at, templates_turn, among_passes, chains_listed, libraries_listed}
@@ -54,6 +59,12 @@ first_or (x ∷ xs) ys = refl
 at_place : (test : Use → Bool) (p : TagPlace) (x : Text × Site) → test x.1.made ≡ true
     → Some (place_of x) ≡ Some (place_view p) → IsAt test p x
 at_place test p x h e = search (arith, rules, place_view)
+
+-- The place of the tag at an index.
+pub place_here : (found : List FoundTag) (k : ℕ) (t : FoundTag) (q : Text × ℕ) → k < length found
+    → t ≡ get_or found k t → q ≡ place_of (tag_view t) → place_in k (tags_view found) ≡ Some q
+place_here found k t q lt is at =
+    ap (option_map place_of) (map_at tag_view found k t lt is) ∙ ap (λ (z : Text × ℕ). Some z) (sym at)
 
 pub first_shows : (test : Use → Bool) (p : TagPlace) (xs : List (Text × Site))
     → place_in 0 (tags test xs) ≡ Some (place_view p) → ForSome (IsAt test p) xs
@@ -116,6 +127,17 @@ pub some_weaker : {A : Type 0} (P Q : A → Type 0) → ((x : A) → P x → Q x
 some_weaker P Q f [] h = absurd h
 some_weaker P Q f (x ∷ xs) h = ⊎_elim (λ p. inl (f x p)) (λ q. inr (some_weaker P Q f xs q)) h
 
+-- A use of a statement is one of its body.
+pub statement_used : (P : Site → Type 0) (ss : List code.Stmt) (k : ℕ) (s : code.Stmt) (w : Enclosing)
+    → k < length ss → s ≡ get_or ss k s → ForSome P (stmt_uses (stmt_view s) w)
+    → ForSome P (body_uses (body_view ss) w)
+statement_used P [] k s w lt at h = absurd (omega arith)
+statement_used P (t ∷ ss) zero s w lt at h =
+    some_front P _ _ (subst (λ (u : code.Stmt). ForSome P (stmt_uses (stmt_view u) w)) at h)
+statement_used P (t ∷ ss) (suc k) s w lt at h =
+    some_behind P _ _
+    (statement_used P ss k s w (omega arith) at h)
+
 uses-append : (ts us : List Template) → all_uses (ts ++ us) ≡ all_uses ts ++ all_uses us
 uses-append [] us = refl
 uses-append (t ∷ ts) us = search (arith, rules, uses-append ts us, append_assoc, uses_in, all_uses)
@@ -142,7 +164,7 @@ extends_asks all n u h = absurd (cc)
 
 -- ---- a template with two blocks of one name
 
-some_template : (P : Template → Type 0) (ps : List TemplateFile) (is : List ℕ) (k : ℕ) (p : TemplateFile)
+pub some_template : (P : Template → Type 0) (ps : List TemplateFile) (is : List ℕ) (k : ℕ) (p : TemplateFile)
     → k < length is → get_or is k 0 < length ps → p ≡ get_or ps (get_or is k 0) p → P (file_view p)
     → ForSome P (templates_at (files_view ps) is)
 some_template P ps [] k p lt within at h = absurd (omega arith)
@@ -174,7 +196,6 @@ module _ (ps : List TemplateFile) (is : List ℕ) (k : ℕ) (p : TemplateFile) (
     where
       by : (q : Option TagPlace) (x : Option ChainSubject) → TwiceAt (file_view p) q x
           → RuleAt s (templates_at (files_view ps) is) q x error.DoubleBlock
-      by None None h = tt
       by (Some q) (Some (v.BlockTwice x first)) h = search (arith, rules, some_template)
       by q x h = absurd h
 
@@ -315,6 +336,25 @@ leads_used s (a_chain k) (a_library n) a =
     in_templates (is_import n) n libraries_in (λ b q. libraries_by n (is_import n) (reflexive n) b outside q)
     (templates s (a_chain k)) (among_passes _ n _ (rw libraries_listed at a)).0
 leads_used s (a_library k) (a_library n) a = let no = (rw libraries_listed at a) in absurd (cc)
+
+-- ---- blocks after the last call of `super()`
+
+not_all : (us : List (Text × Site)) (y : Text × Site) (ws : List (Text × Site)) → is_required y.1.made ≡ false
+    → list_all (λ s. is_required s.1.made) (us ++ y ∷ ws) ≡ false
+not_all [] y ws r = rw r refl
+not_all (u ∷ us) y ws r = and_right _ _ (not_all us y ws r)
+
+none_before : (us : List (Text × Site)) (y : Text × Site) (ws : List (Text × Site)) → has_call y.1.made ≡ false
+    → is_required y.1.made ≡ false → lacks_call ws ≡ false → lacks_call (us ++ y ∷ ws) ≡ false
+none_before [] y ws h r n = rw (h, n) refl
+none_before (u ∷ us) y ws h r n = or_from _ _ (and_right _ _ (not_all us y ws r)) (none_before us y ws h r n)
+
+-- No block calls `super()` if one without a call is not required, and none after it calls.
+pub call_none : (bs qs : List FoundTag) (b : FoundTag) (rest : List FoundTag) → bs ≡ qs ++ b ∷ rest
+    → has_call (tag_view b).1.made ≡ false → is_required (tag_view b).1.made ≡ false
+    → lacks_call (tags_view rest) ≡ false → lacks_call (tags_view bs) ≡ false
+call_none bs qs b rest e h r n =
+    rw (e, map-append tag_view qs (b ∷ rest)) (none_before (tags_view qs) (tag_view b) (tags_view rest) h r n)
 
 pub call_found : (bs qs : List FoundTag) (b : FoundTag) (rest : List FoundTag) → bs ≡ qs ++ b ∷ rest → (line : ℕ)
     → calls_super_at line (tag_view b).1.made ≡ true

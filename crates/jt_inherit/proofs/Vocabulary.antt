@@ -88,8 +88,10 @@ pub use found.{IsNextFinding, TooMany, chains_of, chosen, found_namespaces, foun
 pub use found.{listed_view, root_of, twice, HasNeeds, IsUnmet, keyed_needs, keyed_view, IsFaultAt, IsUnmetNeed}
 pub use found.{AddsNext, known_of, IsLedTo, IsDone}
 pub use Rattle.jt_inherit.specs.internal.Breaking.{IsOfRule, IsTwiceIn, RuleAt, IsBroken, BrokenIn, TwiceAt, lacks}
+pub use Rattle.jt_inherit.specs.internal.Breaking.{IsImported, Misses, imports_it}
 use Rattle.jt_inherit.specs.internal.RuleTests as rule_tests
 pub use rule_tests.{lacks_body, lacks_next, BreakOne, KeepAll, any_double, any_lacks_macros, their_blocks, named}
+pub use rule_tests.{IsNameOf, times}
 use Rattle.jt_inherit.specs.internal.ExtendsPaths as extends_paths
 pub use extends_paths.{AreKnown, BreaksAll, HasPath, HasRead, IsExtendsPath, IsWithin, Leads, names, SaysAll, LeadsFrom}
 pub use Rattle.jt_inherit.specs.internal.Faults.{IsFaultOf, HasFaulty, IsFault, IsScan, IsParse}
@@ -102,6 +104,7 @@ pub use placing.{IsNoLibrary, IsOfImport, LeadsAt, extends_at, IsParent}
 pub use Rattle.jt_inherit.specs.internal.Numbers.{AreNumbers, is_named, is_kind, key_view, keys_view, keyed}
 use Rattle.jt_inherit.specs.internal.Tags as tags
 pub use tags.{IsLastCall, place_in, place_view, tag_view, tags, tags_view, test_of, place_of, with_name}
+pub use tags.{has_call, lacks_call, tag_count}
 use Rattle.std.proofs.Common as common
 pub use common.{◌≡◌, ℕ, zero, suc, ◌<◌, ◌==◌, Bool, true, false, not, ◌||◌, List, [], ◌∷◌, length, map, refl, sym, ap}
 pub use common.{◌∙◌, arith, Some, rules, ◌⊎◌, ◌≤◌, ◌-◌, subst, ⊎_elim, Option, String, Vec, Global, ◌&&◌, None, ◌+◌}

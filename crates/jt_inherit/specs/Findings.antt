@@ -215,16 +215,13 @@ module _ (given : SourceTexts) (sources : Sources) (escaping : Bool) (entry name
       × IsTrue (is_some (sources (string_bytes n)) && not (is_a_library (sources (string_bytes n))))
   IsBrokenAt e p x = ⊥
 
--- The errors that may come without a tag and a subject: lack of memory, an error of a source, which
--- has a place of its own, and the errors of the rules whose tags may not be found.
+-- The errors that come without a tag and a subject: lack of memory, and an error of a source, which
+-- has a place of its own.
 abbrev pub may_be_bare : ChainError → Bool
-may_be_bare error.Missing = false
-may_be_bare error.BadName = false
-may_be_bare error.ExtendsCycle = false
-may_be_bare error.ChainTooLong = false
-may_be_bare error.NotALibrary = false
-may_be_bare error.IncludeCycle = false
-may_be_bare e = true
+may_be_bare error.NoMemory = true
+may_be_bare (error.Scan name e) = true
+may_be_bare (error.Parse name e) = true
+may_be_bare e = false
 
 module _ (given : SourceTexts) (entry : Text) (options : Options) where
   -- The entry's own name, for which no tag asks, has no source or is not valid.

@@ -1,18 +1,21 @@
 //! Finds the tags that break a rule on the blocks, macros and imports of a chain or library.
 
-ghost use Rattle.std.specs.Prelude.{◌≡◌, true, IfOk, IfSome};
+ghost use Rattle.std.specs.Prelude.{◌≡◌, ◌<◌, ◌≤◌, true, false, length, IfOk, MatchOption};
 ghost use Rattle.jt_chains.specs.Along.{templates_at};
 ghost use Rattle.jt_chains.specs.Chain.{Template};
 ghost use Rattle.jt_chains.specs.View.{its_sources, its_templates};
-ghost use Rattle.jt_inherit.specs.Findings.{uses_in};
+ghost use Rattle.jt_chains.specs.Rules as rules;
+ghost use Rattle.jt_inherit.specs.Findings.{binds_macro, defines, is_block, uses_in};
 ghost use Rattle.jt_inherit.specs.internal.Breaking.{IsOfRule, IsTwiceIn, lacks};
-ghost use Rattle.jt_inherit.specs.internal.Tags.{IsLastCall, tag_view, tags_view, with_name};
+ghost use Rattle.jt_inherit.specs.internal.RuleTests.{named, their_blocks};
+ghost use Rattle.jt_inherit.specs.internal.Tags.{IsLastCall, lacks_call, tag_count, tag_view, tags};
+ghost use Rattle.jt_inherit.specs.internal.Tags.{tags_view, with_name};
 ghost use Rattle.jt_uses.specs.UseView.{sites_view};
 
 use crate::error::ChainError;
 use crate::finding::{ChainFinding, ChainSubject};
 use crate::importing::MissingMacro;
-use crate::tags::{FoundTag, Wanted, first_place, tags_among, tags_at, two_places};
+use crate::tags::{FoundTag, Wanted, tags_among, tags_at, two_places};
 use jt_names::ChainFacts;
 use jt_uses::UseSite;
 use std::alloc::{AllocError, Global};
@@ -26,6 +29,8 @@ pub(crate) fn missing_finding(
 ) -> Result<ChainFinding, AllocError>
     requires lacking { lacks (its_sources facts.now.chain.now) missing.library.now
         missing.name.now ≡ true }
+    requires imported { 0 < tag_count (binds_macro missing.library.now missing.name.now)
+        (templates_at (its_templates facts.now.chain.now) indices.now) }
     ensures { IfOk result (IsOfRule (its_sources facts.now.chain.now)
         (templates_at (its_templates facts.now.chain.now) indices.now) ChainError.NoMacro) }
 {
@@ -34,9 +39,8 @@ pub(crate) fn missing_finding(
         name: missing.name,
     };
     let tags = tags_at(alloc, facts, indices, wanted)?;
-    let Some(place) = first_place(alloc, &tags)? else {
-        return Ok(ChainFinding::without_place(ChainError::NoMacro));
-    };
+    let tag = tags[0];
+    let place = tag.place(alloc)?;
     let library = String::from_str(alloc, missing.library)?;
     let name = String::from_str(alloc, missing.name)?;
     Ok(ChainFinding {
@@ -53,13 +57,13 @@ pub(crate) fn name_twice(
     indices: &[usize],
     name: &str,
 ) -> Result<ChainFinding, AllocError>
+    requires twice { 2 ≤ tag_count (defines name.now)
+        (templates_at (its_templates facts.now.chain.now) indices.now) }
     ensures { IfOk result (IsOfRule (its_sources facts.now.chain.now)
         (templates_at (its_templates facts.now.chain.now) indices.now) ChainError.MacroTwice) }
 {
     let tags = tags_at(alloc, facts, indices, Wanted::Defines(name))?;
-    let Some(places) = two_places(alloc, &tags)? else {
-        return Ok(ChainFinding::without_place(ChainError::MacroTwice));
-    };
+    let places = two_places(alloc, &tags)?;
     let name = String::from_str(alloc, name)?;
     Ok(ChainFinding {
         error: ChainError::MacroTwice,
@@ -78,13 +82,13 @@ pub(crate) fn block_twice(
     uses: &[UseSite<'_>],
     name: &str,
 ) -> Result<ChainFinding, AllocError>
+    requires twice { 2 ≤ length (tags (is_block name.now)
+        (with_name template.now (sites_view uses.now))) }
     ensures { IfOk result (λ f. (t : Template)
         → with_name template.now (sites_view uses.now) ≡ uses_in t → IsTwiceIn t f) }
 {
     let tags = tags_among(alloc, template, uses, Wanted::Block(name))?;
-    let Some(places) = two_places(alloc, &tags)? else {
-        return Ok(ChainFinding::without_place(ChainError::DoubleBlock));
-    };
+    let places = two_places(alloc, &tags)?;
     let name = String::from_str(alloc, name)?;
     Ok(ChainFinding {
         error: ChainError::DoubleBlock,
@@ -103,17 +107,15 @@ pub(crate) fn not_given(
     indices: &[usize],
     name: &str,
 ) -> Result<ChainFinding, AllocError>
+    requires required { rules.is_required (named name.now
+        (their_blocks facts.now.chain.now.autoescape
+        (templates_at (its_templates facts.now.chain.now) indices.now))) ≡ true }
     ensures { IfOk result (IsOfRule (its_sources facts.now.chain.now)
         (templates_at (its_templates facts.now.chain.now) indices.now)
         ChainError.RequiredNotGiven) }
 {
     let named = tags_at(alloc, facts, indices, Wanted::Block(name))?;
-    let Some(nearest) = named.first() else {
-        return Ok(ChainFinding::without_place(ChainError::RequiredNotGiven));
-    };
-    if !nearest.is_required() {
-        return Ok(ChainFinding::without_place(ChainError::RequiredNotGiven));
-    }
+    let nearest = named[0];
     let place = nearest.place(alloc)?;
     let name = String::from_str(alloc, name)?;
     Ok(ChainFinding {
@@ -132,7 +134,7 @@ struct SuperCall<'a> {
 
 /// Returns the last of the blocks that calls `super()`, if each block after it is required.
 fn last_call(mut blocks: Vec<FoundTag<'_>>) -> Option<SuperCall<'_>>
-    ensures { IfSome result
+    ensures { MatchOption result (lacks_call (tags_view blocks.entry.items) ≡ false)
         (λ call. IsLastCall (tags_view blocks.entry.items) (tag_view call.block) call.line) }
 {
     while let Some(block) = blocks.pop() {
@@ -153,6 +155,9 @@ pub(crate) fn no_super(
     indices: &[usize],
     name: &str,
 ) -> Result<ChainFinding, AllocError>
+    requires lacking { rules.lacks_super (named name.now
+        (their_blocks facts.now.chain.now.autoescape
+        (templates_at (its_templates facts.now.chain.now) indices.now))) ≡ true }
     ensures { IfOk result (IsOfRule (its_sources facts.now.chain.now)
         (templates_at (its_templates facts.now.chain.now) indices.now) ChainError.NoSuper) }
 {

@@ -1,8 +1,7 @@
 //! Checks the rules on the blocks, macros and imports of chains and libraries.
 
-ghost use Rattle.std.specs.Prelude.{◌≡◌, ◌<◌, List, false, length, map};
+ghost use Rattle.std.specs.Prelude.{◌≡◌, ◌<◌, ◌≤◌, List, true, false, length, map};
 ghost use Rattle.std.specs.Prelude.{IfOk, IfErr, MatchOption, MatchResult, OnOk};
-ghost use Rattle.std.specs.Option.{is_some};
 ghost use Rattle.jt_scan.specs.declared.options.Options.{Options};
 ghost use Rattle.jt_ast.specs.Texts.{repeated as texts_repeat, texts};
 ghost use Rattle.jt_ast.specs.Expressions.{Text};
@@ -12,7 +11,9 @@ ghost use Rattle.jt_inherit.specs.Linked.{IsLinked};
 ghost use Rattle.jt_chains.specs.Along.{AreIndices, templates_at};
 ghost use Rattle.jt_chains.specs.Chain.{Namespace, Template, all_bodies, templates};
 ghost use Rattle.jt_chains.specs.Named.{names_view};
-ghost use Rattle.jt_inherit.specs.internal.RuleTests.{lacks_body, lacks_next};
+ghost use Rattle.jt_chains.specs.Rules as rules;
+ghost use Rattle.jt_inherit.specs.internal.RuleTests.{IsNameOf, lacks_body, lacks_next, named};
+ghost use Rattle.jt_inherit.specs.internal.RuleTests.{times};
 ghost use Rattle.jt_inherit.specs.internal.RuleTests as spec;
 ghost use Rattle.jt_chains.specs.Parts.{blocks_view};
 ghost use Rattle.jt_chains.specs.View.{Seen, chain_view, its_sources, its_templates, namespace_in};
@@ -30,7 +31,8 @@ use std::alloc::{AllocError, Global};
 
 /// Returns the first name that occurs before, if any.
 fn repeated<'a>(alloc: Global, names: &[&'a str]) -> Result<Option<&'a str>, AllocError>
-    ensures { IfOk result (λ found. is_some found ≡ texts_repeat (texts names.now)) }
+    ensures { IfOk result (IsNameOf (texts_repeat (texts names.now))
+        (λ x. 2 ≤ times x (texts names.now))) }
 {
     let firsts = NameIndex::of(alloc, names, 0)?;
     for index in 0..names.len() {
@@ -47,7 +49,8 @@ fn repeated_definition<'a>(
     defined: &[DefinedName<'a>],
 ) -> Result<Option<&'a str>, AllocError>
     ensures { IfOk result (λ found. (ts : List Template) (h : Namespace)
-        → is_some found ≡ texts_repeat (map (λ g. g.0) (names_view ts h defined.now))) }
+        → IsNameOf (texts_repeat (map (λ g. g.0) (names_view ts h defined.now)))
+        (λ x. 2 ≤ times x (map (λ g. g.0) (names_view ts h defined.now))) found) }
 {
     let names: Vec<&'a str> = defined.iter().map(|one| one.name).collect(alloc)?;
     repeated(alloc, &names)
@@ -56,7 +59,8 @@ fn repeated_definition<'a>(
 /// Returns the name that two bodies of blocks have, if any.
 fn repeated_block<'a>(alloc: Global, blocks: &[Block<'a>]) -> Result<Option<&'a str>, AllocError>
     ensures { IfOk result (λ found. (ts : List Template)
-        → is_some found ≡ texts_repeat (map (λ b. b.name) (blocks_view ts blocks.now))) }
+        → IsNameOf (texts_repeat (map (λ b. b.name) (blocks_view ts blocks.now)))
+        (λ x. 2 ≤ times x (map (λ b. b.name) (blocks_view ts blocks.now))) found) }
 {
     let names: Vec<&'a str> = blocks.iter().map(|block| block.name).collect(alloc)?;
     repeated(alloc, &names)
@@ -66,8 +70,11 @@ fn repeated_block<'a>(alloc: Global, blocks: &[Block<'a>]) -> Result<Option<&'a 
 /// if any.
 fn lacking_body<'a>(facts: &ChainFacts<'a>, namespace: usize) -> Option<&'a str>
     requires stands { namespace < length facts.now.chain.now.namespaces.items }
-    ensures { is_some result ≡ lacks_body (all_bodies (its_sources facts.now.chain.now)
-        facts.now.chain.now.autoescape (namespace_in facts.now.chain.now namespace)) }
+    ensures { IsNameOf (lacks_body (all_bodies (its_sources facts.now.chain.now)
+        facts.now.chain.now.autoescape (namespace_in facts.now.chain.now namespace)))
+        (λ x. rules.is_required (named x (all_bodies (its_sources facts.now.chain.now)
+        facts.now.chain.now.autoescape (namespace_in facts.now.chain.now namespace))) ≡ true)
+        result }
 {
     let known = &facts.namespaces[namespace];
     for index in 0..known.blocks.len() {
@@ -82,8 +89,9 @@ fn lacking_body<'a>(facts: &ChainFacts<'a>, namespace: usize) -> Option<&'a str>
 /// Returns the name of a block with a body that calls `super()`, if each body after it is required.
 /// Visits the bodies from the last to the first.
 fn lacking_next<'a>(alloc: Global, blocks: &[Block<'a>]) -> Result<Option<&'a str>, AllocError>
-    ensures { IfOk result
-        (λ found. (ts : List Template) → is_some found ≡ lacks_next (blocks_view ts blocks.now)) }
+    ensures { IfOk result (λ found. (ts : List Template)
+        → IsNameOf (lacks_next (blocks_view ts blocks.now))
+        (λ x. rules.lacks_super (named x (blocks_view ts blocks.now)) ≡ true) found) }
 {
     let mut given = NameIndex::new(alloc);
     let mut left = blocks.len();

@@ -1,13 +1,13 @@
 //! Finds the tags that a finding names.
 
-ghost use Rattle.std.specs.Prelude.{◌≡◌, true, option_map, IfOk, IfSome};
+ghost use Rattle.std.specs.Prelude.{◌≡◌, ◌≤◌, true, false, length, option_map, IfOk, MatchOption};
 ghost use Rattle.jt_chains.specs.Along.{templates_at};
 ghost use Rattle.jt_chains.specs.TemplateFiles.{file_view, files_view};
 ghost use Rattle.jt_chains.specs.View.{its_templates};
 ghost use Rattle.jt_inherit.specs.Findings as findings;
 ghost use Rattle.jt_inherit.specs.Findings.{all_uses, uses_in};
 ghost use Rattle.jt_inherit.specs.internal.Tags.{test_of, tags, tags_view, tag_view, place_view};
-ghost use Rattle.jt_inherit.specs.internal.Tags.{AreFirst, place_in, with_name, place_of};
+ghost use Rattle.jt_inherit.specs.internal.Tags.{AreFirst, has_call, place_in, with_name, place_of};
 ghost use Rattle.jt_uses.specs.UseView.{use_view, sites_view};
 
 use crate::finding::TagPlace;
@@ -76,7 +76,7 @@ impl<'a> FoundTag<'a> {
     /// Returns the line of the first tag that calls `super()`, if this is a block with such a tag.
     /// Nested blocks do not count.
     pub(crate) fn super_line(self) -> Option<u32>
-        ensures { IfSome result
+        ensures { MatchOption result (has_call (tag_view self.entry).1.made ≡ false)
             (λ n. findings.calls_super_at n (tag_view self.entry).1.made ≡ true) }
     {
         match self.site.made {
@@ -213,14 +213,11 @@ pub(crate) fn first_at(
 pub(crate) fn two_places(
     alloc: Global,
     found: &[FoundTag<'_>],
-) -> Result<Option<(TagPlace, TagPlace)>, AllocError>
-    ensures { IfOk result (λ o. IfSome o (AreFirst found.now)) }
+) -> Result<(TagPlace, TagPlace), AllocError>
+    requires two { 2 ≤ length found.now }
+    ensures { IfOk result (AreFirst found.now) }
 {
-    let Some(first) = found.first() else {
-        return Ok(None);
-    };
-    let Some(second) = found.get(1) else {
-        return Ok(None);
-    };
-    Ok(Some((first.place(alloc)?, second.place(alloc)?)))
+    let first = found[0].place(alloc)?;
+    let later = found[1].place(alloc)?;
+    Ok((first, later))
 }

@@ -26,4 +26,8 @@ pub mod CheckCorrect
 mod LoadedMember
 mod MemberCorrect
 mod MemberFound
+pub mod LimitsRaised
+pub mod PushedMeasured
+pub mod PeaksAddUp
+pub mod LeastBudget
 pub mod Vocabulary

@@ -30,20 +30,20 @@ output_in (Goes c) = c.left.output
 output_in (Ends o) = 0
 output_in Wrong = 0
 
-placed_goes : (p : Option Place) (n : Next) (d : Config) → placed p n ≡ Goes d → n ≡ Goes d
+pub placed_goes : (p : Option Place) (n : Next) (d : Config) → placed p n ≡ Goes d → n ≡ Goes d
 placed_goes p (Goes c) d e = e
 placed_goes p (Ends (config.text t)) d e = e
 placed_goes p (Ends (config.fault f q)) d e = absurd cc
 placed_goes p (Ends (config.spent l)) d e = e
 placed_goes p Wrong d e = e
 
-unless_goes : (x : Bool) (l : config.Limit) (n : Next) (d : Config) → unless x l n ≡ Goes d
+pub unless_goes : (x : Bool) (l : config.Limit) (n : Next) (d : Config) → unless x l n ≡ Goes d
     → (x ≡ false) × (n ≡ Goes d)
 unless_goes true l n d e = absurd cc
 unless_goes false l n d e = (refl, e)
 
 -- A step of this cost that goes on has taken it from the fuel, and no byte was given back.
-record HasTaken (n : ℕ) (b : Budget) (d : Config) : Type 0 where
+pub record HasTaken (n : ℕ) (b : Budget) (d : Config) : Type 0 where
   pub fuel : n + d.left.fuel ≡ b.fuel
   pub output : d.left.output ≤ b.output
 
@@ -70,7 +70,7 @@ taken_at : (k : Code) (o : Option (Section × Instruction)) (c d : Config) → n
 taken_at k None c d e = absurd cc
 taken_at k (Some x) c d e = spent_goes _ _ c.left _ d e
 
-has_taken : (k : Code) (c d : Config) → next k c ≡ Goes d → HasTaken (next_cost k c) c.left d
+pub has_taken : (k : Code) (c d : Config) → next k c ≡ Goes d → HasTaken (next_cost k c) c.left d
 has_taken k c d e = taken_at k _ c d e
 
 -- ---- the cost of the step that ends with a text
@@ -111,11 +111,12 @@ text_cost k u (op.Unpack n) c t e = absurd (straight_goes (plain k (op.Unpack n)
 text_cost k u (op.Call n) c t e = refl
 text_cost k u op.Return c t e = refl
 
-if_text : (x : Bool) (a : Action) (t : List ℕ) → (if x then a else wrong) ≡ ends t → a ≡ ends t
+pub if_text : (x : Bool) (a : Action) (t : List ℕ) → (if x then a else wrong) ≡ ends t → a ≡ ends t
 if_text true a t e = e
 if_text false a t e = absurd cc
 
-placed_text : (p : Option Place) (n : Next) (t : List ℕ) → placed p n ≡ Ends (config.text t) → n ≡ Ends (config.text t)
+pub placed_text : (p : Option Place) (n : Next) (t : List ℕ) → placed p n ≡ Ends (config.text t) → n ≡ Ends
+    (config.text t)
 placed_text p (Goes c) t e = absurd cc
 placed_text p (Ends (config.text s)) t e = e
 placed_text p (Ends (config.fault f q)) t e = absurd cc
@@ -128,7 +129,7 @@ unless_text true l n t e = absurd cc
 unless_text false l n t e = (refl, e)
 
 -- An action of this cost that ends a run with a text has enough fuel.
-spent_text : (n : ℕ) (a : Action) (b : Budget) (t : List ℕ) → spends n a b ≡ Ends (config.text t)
+pub spent_text : (n : ℕ) (a : Action) (b : Budget) (t : List ℕ) → spends n a b ≡ Ends (config.text t)
     → (a ≡ ends t) × (n ≤ b.fuel)
 spent_text n (goes_on m w) b t e =
     let enough = unless_text (nat_lt b.fuel n) _ _ t e in
@@ -161,20 +162,27 @@ last_cost k c (config.spent l) e = rw e (refl, omega arith)
 
 -- ---- uses
 
+abbrev parts_of : ℕ → ℕ → ℕ → ℕ → ℕ → Used
+parts_of f o d s n = record { fuel = f; output = o; depth = d; size = s; nesting = n }
+
 abbrev use_of : ℕ → ℕ → ℕ → Used
-use_of f o d = record { fuel = f; output = o; depth = d }
+use_of f o d = parts_of f o d 0 0
 
-same_parts : (f g o p d e : ℕ) → f ≡ g → o ≡ p → d ≡ e → use_of f o d ≡ use_of g p e
-same_parts f g o p d e x y z = rw (x, y, z) refl
+same_parts : (f g o p d e s t n m : ℕ) → f ≡ g → o ≡ p → d ≡ e → s ≡ t → n ≡ m
+    → parts_of f o d s n ≡ parts_of g p e t m
+same_parts f g o p d e s t n m x y z v w = rw (x, y, z, v, w) refl
 
-pub same_used : (a b : Used) → a.fuel ≡ b.fuel → a.output ≡ b.output → a.depth ≡ b.depth → a ≡ b
-same_used a b x y z = same_parts a.fuel b.fuel a.output b.output a.depth b.depth x y z
+pub same_used : (a b : Used) → a.fuel ≡ b.fuel → a.output ≡ b.output → a.depth ≡ b.depth → a.size ≡ b.size
+    → a.nesting ≡ b.nesting → a ≡ b
+same_used a b x y z v w =
+    same_parts a.fuel b.fuel a.output b.output a.depth b.depth a.size b.size a.nesting b.nesting x y z v w
 
 together_both : (a b c : Used) → together a (together b c) ≡ together (together a b) c
-together_both a b c = same_used _ _ (omega arith) (omega arith) (omega arith)
+together_both a b c =
+    same_used _ _ (omega arith) (omega arith) (omega arith) (omega arith) (omega arith)
 
 pub together_none : (a : Used) → together a nothing_used ≡ a
-together_none a = same_used _ _ (omega arith) (omega arith) (omega arith)
+together_none a = same_used _ _ (omega arith) (omega arith) (omega arith) (omega arith) (omega arith)
 
 -- The calls that are open at the first configuration are counted.
 pub first_counted : (k : Code) (n : ℕ) (c : Config) → length c.machine.callers ≤ (used_within k n c).depth
@@ -188,7 +196,8 @@ pub used_on : (k : Code) (n m : ℕ) (c d : Config) → after k n c ≡ Goes d
     → used_within k (n + m) c ≡ together (used_within k n c) (used_within k m d)
 used_on k zero m c d e =
     let same : c ≡ d = cc e in
-    rw (zero-add m, sym same) (same_used _ _ (omega arith) (omega arith) (omega (arith, first_counted k m c)))
+    rw (zero-add m, sym same)
+    (same_used _ _ (omega arith) (omega arith) (omega (arith, first_counted k m c)) (omega arith) (omega arith))
 used_on k (suc n) m c d e =
     let s : suc n + m ≡ suc (n + m) = omega arith in rw s (along (λ b r. used_on k n m b d r) (next k c) e)
   where
@@ -279,10 +288,13 @@ used_to_end k n m c d o r e lt =
     (omega (arith, ap (λ (u : Used). u.fuel) on, cost, ap (λ (u : Used). u.fuel) none))
     (omega (arith, ap (λ (u : Used). u.output) on, ap (λ (u : Used). u.output) none))
     (omega (arith, ap (λ (u : Used). u.depth) on, ap (λ (u : Used). u.depth) none, last_counted k n c d r))
+    (omega (arith, ap (λ (u : Used). u.size) on, ap (λ (u : Used). u.size) none))
+    (omega (arith, ap (λ (u : Used). u.nesting) on, ap (λ (u : Used). u.nesting) none))
   where
     last_taken : (k : Code) (r : ℕ) (d : Config) (o : Outcome) → next k d ≡ Ends o
         → used_within k (suc r) d ≡ use_of (counted_cost (next k d) (next_cost k d)) 0 (length d.machine.callers)
-    last_taken k r d o e = rw e (same_used _ _ (omega arith) (omega arith) (omega arith))
+    last_taken k r d o e =
+        rw e (same_used _ _ (omega arith) (omega arith) (omega arith) (omega arith) (omega arith))
 
 -- ---- slices
 

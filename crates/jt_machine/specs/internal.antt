@@ -4,5 +4,6 @@ pub mod Iterating
 pub mod Making
 pub mod Meters
 pub mod Numbers
+pub mod Peaks
 pub mod Required
 pub mod StackView

@@ -6,6 +6,7 @@
 //! - metered_run: `MeteredRun`, such a run of a shared image, which counts what it uses.
 //! - step: one step, with a module for each kind of instruction.
 //! - fast_path, fast_items, fast_output, numbers: cheap instructions, many of them in one call.
+//! - peaks: the greatest size and nesting of the values that a run tests.
 //! - constants: text constants, each built once in a run.
 //! - outcome: how runs end.
 //!
@@ -32,6 +33,7 @@ mod measure;
 mod metered_run;
 mod numbers;
 mod outcome;
+mod peaks;
 mod required;
 mod runs;
 mod sink;

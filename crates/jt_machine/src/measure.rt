@@ -2,7 +2,7 @@
 ghost use Rattle.std.specs.Prelude.{◌≡◌, ◌-◌, ◌+◌, ◌^◌, ℕ, min, max, length, if◌then◌else◌};
 ghost use Rattle.jt_value.specs.Tree.{size, nesting, items_size, items_nesting};
 ghost use Rattle.jt_value.specs.View.{view, items_of};
-ghost use Rattle.jt_image.specs.Step.{key_bytes};
+ghost use Rattle.jt_image.specs.Step.{greatest, key_bytes};
 ghost use Rattle.jt_machine.specs.Entries.{entry_view, held, all_held};
 ghost use Rattle.jt_machine.specs.internal.Making.{is_named as is_named_in, lasting_size};
 ghost use Rattle.jt_machine.specs.internal.Making.{lasting_nesting};
@@ -45,6 +45,30 @@ pub(crate) fn sizes(entries: &[StackEntry]) -> u64
 /// Returns the greatest nesting of the values that entries hold.
 pub(crate) fn deepest(entries: &[StackEntry]) -> u32
     ensures { result ≡ min (items_nesting (items_of (all_held entries.now))) (2 ^ 32 - 1) }
+{
+    let mut most = 0u32;
+    'entries: for entry in entries {
+        most = most.max(held_nesting(entry));
+    }
+    most
+}
+
+/// Returns the greatest size of the values that entries hold, or the greatest `u64` if it is
+/// greater.
+pub(crate) fn largest_held(entries: &[StackEntry]) -> u64
+    ensures { result ≡ min (greatest size (all_held entries.now)) (2 ^ 64 - 1) }
+{
+    let mut most = 0u64;
+    'entries: for entry in entries {
+        most = most.max(held_size(entry));
+    }
+    most
+}
+
+/// Returns the greatest nesting of the values that entries hold, or the greatest `u32` if it is
+/// greater.
+pub(crate) fn deepest_held(entries: &[StackEntry]) -> u32
+    ensures { result ≡ min (greatest nesting (all_held entries.now)) (2 ^ 32 - 1) }
 {
     let mut most = 0u32;
     'entries: for entry in entries {

@@ -7,23 +7,25 @@ ghost use Rattle.jt_value.specs.ContextView.{pairs_of};
 ghost use Rattle.jt_image.specs.IsCode.{IsCode};
 ghost use Rattle.jt_image.specs.Typed.{IsTyped};
 ghost use Rattle.jt_image.specs.Config as config;
-ghost use Rattle.jt_image.specs.Run.{IsSafe, after};
+ghost use Rattle.jt_image.specs.Run.{IsSafe, after, passed};
 ghost use Rattle.jt_machine.specs.Growing.{ComesToGrow, HasTables};
 ghost use Rattle.jt_machine.specs.Session.{led, stage_progress, started};
 ghost use Rattle.jt_machine.specs.StageView.{stage_view, IsReached, IsUnderway};
 ghost use Rattle.jt_machine.specs.View.{budget_view, config_view, next_view, outcome_view};
 ghost use Rattle.jt_machine.specs.ConstantCache.{AreCached};
 ghost use Rattle.jt_machine.specs.Metering.{MeteringLaws, used_within, nothing_used, together};
+ghost use Rattle.jt_machine.specs.Metering.{named_values, start_use};
 ghost use Rattle.jt_machine.specs.Metering.{prints_undefined as prints_undefined_at};
 ghost use Rattle.jt_machine.specs.MeterRoom.{LeavesRoom};
 ghost use Rattle.jt_machine.specs.internal.Meters.{end_cost as end_cost_of, used_up};
+ghost use Rattle.jt_machine.specs.internal.Peaks.{peak_of, with_peak};
 ghost use Rattle.jt_machine.specs.View.{place_view};
 
 use crate::constants::ConstantCache;
-use crate::fast_path::run_fast;
 use crate::fault_place::place_at;
 use crate::machine::Stage;
 use crate::outcome::{Outcome, Place, Progress};
+use crate::peaks::{Peak, context_peak, peak_after, pushed_here, run_below};
 use crate::start::{context_limit, start};
 use crate::state::State;
 use crate::step::step;
@@ -46,10 +48,16 @@ pub struct Used {
     pub output: u64,
     /// The greatest number of calls that were open at one time.
     pub depth: u32,
+    /// The greatest size of a value that was tested against its limit, and 0 if none was. These are
+    /// the values of the context that the code names and the values that instructions push. The
+    /// value that exceeds a limit counts nothing.
+    pub size: u32,
+    /// The greatest nesting of these values.
+    pub nesting: u8,
 }
 
 impl Used {
-    /// Returns the use of a run before its first instruction.
+    /// Returns the use of a run that ends before its first instruction.
     fn nothing() -> Used
         ensures { result ≡ nothing_used }
     {
@@ -57,6 +65,30 @@ impl Used {
             fuel: 0,
             output: 0,
             depth: 0,
+            size: 0,
+            nesting: 0,
+        }
+    }
+
+    /// Returns the use of a run before its first instruction, if its context has this peak.
+    fn at_start(peak: Peak) -> Used
+        ensures { result
+            ≡ record nothing_used { size = peak.size; nesting = peak.nesting } }
+    {
+        Used {
+            size: peak.size,
+            nesting: peak.nesting,
+            ..Used::nothing()
+        }
+    }
+
+    /// Returns the greatest size and nesting.
+    fn peak(&self) -> Peak
+        ensures { result ≡ peak_of self.now }
+    {
+        Peak {
+            size: self.size,
+            nesting: self.nesting,
         }
     }
 
@@ -70,6 +102,8 @@ impl Used {
             fuel: self.fuel + next.fuel,
             output: self.output + next.output,
             depth: self.depth.max(next.depth),
+            size: self.size.max(next.size),
+            nesting: self.nesting.max(next.nesting),
         }
     }
 }
@@ -109,7 +143,7 @@ impl Model for MeteredRun {
 
 impl MeteredRun {
     ghost use Rattle.jt_machine.specs.Growing.{HasTables, MayLose};
-    ghost use Rattle.jt_machine.specs.Metering.{metered_after, metered_start};
+    ghost use Rattle.jt_machine.specs.Metering.{metered_after, metered_start, UsesLeast};
     ghost use Rattle.jt_machine.specs.Metering.{next_instruction, next_place, prints_undefined};
     ghost use Rattle.jt_machine.specs.Session.{is_lost, lost_session, outcome_of, stage_progress};
     ghost use Rattle.jt_machine.specs.Session.{RunsInSlices};
@@ -137,15 +171,18 @@ impl MeteredRun {
         // A run in slices reaches the outcome of the run.
         ensures slices { (any_context : Pairs) (any_budget : config.Budget)
             → RunsInSlices (arc_value image) any_context any_budget }
+        // What a run that ends with a text has used is the least budget with which it ends so.
+        ensures least { (any_context : Pairs) (any_budget : config.Budget)
+            → UsesLeast (arc_value image) any_context any_budget }
     {
         code_laws();
-        let stage = first_stage(alloc, image.image(), context, budget)?;
+        let Begun { stage, used } = begin(alloc, image.image(), context, budget)?;
         Ok(MeteredRun {
             alloc,
             image,
             stage,
             made: ConstantCache::new(alloc),
-            used: Used::nothing(),
+            used,
         })
     }
 
@@ -171,7 +208,11 @@ impl MeteredRun {
         match mem::replace(&mut self.stage, Stage::Lost) {
             Stage::Going(state) => {
                 let image = self.image.image();
-                let slice = take_slice(self.alloc, image, &mut self.made, state, k)?;
+                let measured = Measured {
+                    state,
+                    peak: self.used.peak(),
+                };
+                let slice = take_slice(self.alloc, image, &mut self.made, measured, k)?;
                 self.stage = slice.stage;
                 self.used = self.used.and(slice.used);
                 Ok(slice.progress)
@@ -267,25 +308,50 @@ impl MeteredRun {
     }
 }
 
-// Returns the stage of a run before its first instruction.
-fn first_stage<C: Code>(
+/// The stage of a run before its first instruction, and what it has used.
+#[derive(Drop)]
+struct Begun {
+    stage: Stage,
+    used: Used,
+}
+
+// Begins a run, and measures the values of its context.
+fn begin<C: Code>(
     alloc: Global,
     code: &C,
     context: &Context,
     budget: Budget,
-) -> Result<Stage, NoMemory>
-    ensures stage { IfOk result (λ s. stage_view s
+) -> Result<Begun, NoMemory>
+    ensures stage { IfOk result (λ b. stage_view b.stage
         ≡ (started (C.code code.now) (pairs_of context.now) (budget_view budget)).stage) }
-    ensures underway { IfOk result (λ s. IsUnderway (C.code code.now) s) }
-    ensures room { IfOk result (λ s. LeavesRoom nothing_used s) }
+    ensures used { IfOk result (λ b. b.used
+        ≡ start_use (passed (budget_view budget) (pairs_of context.now) (C.code code.now).names)
+        (named_values (pairs_of context.now) (C.code code.now).names)) }
+    ensures underway { IfOk result (λ b. IsUnderway (C.code code.now) b.stage) }
+    ensures room { IfOk result (λ b. LeavesRoom b.used b.stage) }
     ensures memory { OnErr result (HasTables (C.code code.now)) }
 {
     // The prover needs these reads, which show that both numbers have 64 bits.
     let (_fuel, _output) = (budget.fuel, budget.output);
     if let Some(spent) = context_limit(code, context, &budget) {
-        return Ok(Stage::Done(Outcome::Spent(spent)));
+        return Ok(Begun {
+            stage: Stage::Done(Outcome::Spent(spent)),
+            used: Used::nothing(),
+        });
     }
-    Ok(Stage::Going(start(alloc, code, context, budget)?))
+    let used = Used::at_start(context_peak(code, context, &budget));
+    let state = start(alloc, code, context, budget)?;
+    Ok(Begun {
+        stage: Stage::Going(state),
+        used,
+    })
+}
+
+/// The state of a run, and the peak of the values that the run has tested.
+#[derive(Drop)]
+struct Measured {
+    state: State,
+    peak: Peak,
 }
 
 /// The result of a slice: the stage after it, whether the run goes on, and what the slice used.
@@ -301,27 +367,30 @@ fn take_slice<C: Code>(
     alloc: Global,
     code: &C,
     made: &mut ConstantCache,
-    mut state: State,
+    mut run: Measured,
     k: u32,
 ) -> Result<Slice, NoMemory>
     requires whole { IsCode (C.code code.now) }
     requires typed { IsTyped (C.code code.now) }
     requires made { AreCached (C.code code.now) made.old.items }
-    requires reached { IsReached (C.code code.now) state }
+    requires reached { IsReached (C.code code.now) run.state }
+    requires size { run.peak.size ≤ run.state.left.size }
+    requires nesting { run.peak.nesting ≤ run.state.left.nesting }
     ensures steps { IfOk result
-        (λ r. stage_view r.stage ≡ led (after (C.code code.now) k (config_view state))) }
-    ensures used { IfOk result (λ r. r.used ≡ used_within (C.code code.now) k (config_view state)) }
+        (λ r. stage_view r.stage ≡ led (after (C.code code.now) k (config_view run.state))) }
+    ensures used { IfOk result (λ r. r.used
+        ≡ with_peak run.peak (used_within (C.code code.now) k (config_view run.state))) }
     ensures memory { OnErr result
-        ((h : ComesToGrow (C.code code.now) (config_view state)) × (h.steps < k)) }
+        ((h : ComesToGrow (C.code code.now) (config_view run.state)) × (h.steps < k)) }
     ensures underway { IfOk result (λ r. IsUnderway (C.code code.now) r.stage) }
     ensures progress { IfOk result (λ r. stage_progress (stage_view r.stage) ≡ Some r.progress) }
     ensures made { AreCached (C.code code.now) made.new.items }
 {
-    let counted = count_steps(alloc, code, made, &mut state, k)?;
+    let counted = count_steps(alloc, code, made, &mut run, k)?;
     let used = counted.used;
     match counted.outcome {
         None => Ok(Slice {
-            stage: Stage::Going(state),
+            stage: Stage::Going(run.state),
             progress: Progress::Going,
             used,
         }),
@@ -345,60 +414,65 @@ fn count_steps<C: Code>(
     alloc: Global,
     code: &C,
     made: &mut ConstantCache,
-    state: &mut State,
+    run: &mut Measured,
     k: u32,
 ) -> Result<Counted, NoMemory>
     requires whole { IsCode (C.code code.now) }
     requires typed { IsTyped (C.code code.now) }
     requires made { AreCached (C.code code.now) made.old.items }
-    requires reached { IsReached (C.code code.now) state.old }
+    requires reached { IsReached (C.code code.now) run.old.state }
+    requires size { run.old.peak.size ≤ run.old.state.left.size }
+    requires nesting { run.old.peak.nesting ≤ run.old.state.left.nesting }
     ensures steps { IfOk result (λ r.
-        after (C.code code.now) k (config_view state.old) ≡ next_view r.outcome state.new) }
-    ensures used { IfOk result
-        (λ r. r.used ≡ used_within (C.code code.now) k (config_view state.old)) }
+        after (C.code code.now) k (config_view run.old.state) ≡ next_view r.outcome run.new.state) }
+    ensures used { IfOk result (λ r. r.used
+        ≡ with_peak run.old.peak (used_within (C.code code.now) k (config_view run.old.state))) }
     ensures memory { OnErr result
-        ((h : ComesToGrow (C.code code.now) (config_view state.old)) × (h.steps < k)) }
-    ensures reached { IfOk result (λ r. IfNone r.outcome (IsReached (C.code code.now) state.new)) }
+        ((h : ComesToGrow (C.code code.now) (config_view run.old.state)) × (h.steps < k)) }
+    ensures reached { IfOk result
+        (λ r. IfNone r.outcome (IsReached (C.code code.now) run.new.state)) }
     ensures made { AreCached (C.code code.now) made.new.items }
 {
     code_laws();
-    let first = state.left;
-    let mut deepest = state.open_calls();
+    let first = run.state.left;
+    let mut deepest = run.state.open_calls();
     let mut left = u64::from(k);
     'steps: loop {
-        let stopped = run_fast(code, made, state, left);
-        let mut last = state.left;
+        let stopped = run_below(code, made, &mut run.state, run.peak, left);
+        let mut last = run.state.left;
         if stopped.left == 0 {
-            let used = use_between(&first, &last, deepest);
             return Ok(Counted {
                 outcome: None,
-                used,
+                used: use_between(&first, &last, deepest, run.peak),
             });
         }
-        if let Some(outcome) = step(alloc, code, made, state, stopped.prefetched)? {
+        let pushed = pushed_here(code, &run.state, stopped.prefetched);
+        if let Some(outcome) = step(alloc, code, made, &mut run.state, stopped.prefetched)? {
             last.fuel -= end_cost(&outcome);
-            let used = use_between(&first, &last, deepest);
             return Ok(Counted {
                 outcome: Some(outcome),
-                used,
+                used: use_between(&first, &last, deepest, run.peak),
             });
         }
-        deepest = deepest.max(state.open_calls());
+        deepest = deepest.max(run.state.open_calls());
+        run.peak = peak_after(run.peak, &run.state, pushed);
         left = stopped.left - 1;
     }
 }
 
 // Returns what was used from one rest of a budget to a later one, if `deepest` calls were open at
-// most.
-fn use_between(first: &Budget, last: &Budget, deepest: u32) -> Used
+// most and the values that were tested have this peak.
+fn use_between(first: &Budget, last: &Budget, deepest: u32, peak: Peak) -> Used
     requires fuel { last.now.fuel ≤ first.now.fuel }
     requires output { last.now.output ≤ first.now.output }
-    ensures { result ≡ used_up first.now last.now deepest }
+    ensures { result ≡ used_up first.now last.now deepest peak }
 {
     Used {
         fuel: first.fuel - last.fuel,
         output: first.output - last.output,
         depth: deepest,
+        size: peak.size,
+        nesting: peak.nesting,
     }
 }
 

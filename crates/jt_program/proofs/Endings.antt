@@ -13,7 +13,9 @@ use Rattle.jt_args.specs.declared.Command.TheVariants as command
 use Rattle.jt_args.specs.declared.Job.{Job}
 use Rattle.jt_args.specs.declared.JobError.{JobError}
 use Rattle.jt_args.specs.declared.JobError.TheVariants as job_error
+use Rattle.jt_args.specs.declared.UseReport.{UseReport}
 use Rattle.jt_budget.specs.declared.Budget.{Budget}
+use Rattle.jt_machine.specs.declared.Used.{Used}
 use Rattle.jt_host.specs.declared.CallError.TheVariants as call_error
 use Rattle.jt_program.specs.declared.messages.Failure.{Failure}
 use Rattle.jt_program.specs.declared.messages.Failure.TheVariants as failure
@@ -23,6 +25,7 @@ use Rattle.jt_program.specs.Ending.{HasUsage, code_of, of_line, status_of}
 use Rattle.jt_program.specs.Reports.{ReportsFailure, ReportsUsage}
 use Rattle.jt_program.specs.declared.messages.Status.TheVariants as status
 use Rattle.jt_program.specs.Files.{IsLibrary, IsOfDirectory, Known, path_in}
+use Rattle.jt_program.proofs.Uses.{job_unused}
 
 -- An input that is missing among files is missing among files with the same contents.
 pub unread_still : {C : Type 0} (known : C → Known) (new old : C) (asks : Text → Type 0)
@@ -82,17 +85,44 @@ module _ (files : Known) where
 
 module _ (files after : Known) (found : Option (Word × List Row)) where
   -- The end of a job is the end of its line.
-  pub line_ends : (e : Ending) → Answers files after found e → LineEnds files after found e
-  line_ends (Err (failure.Usage text)) a = tt
-  line_ends (Err (failure.Call call_error.NoMemory)) a = tt
-  line_ends e a = a
+  pub line_ends : (e : Ending) (used : Option Used) → Answers files after found e used
+      → LineEnds files after found e used
+  line_ends (Err (failure.Usage text)) used a =
+      job_unused files a.job.report a.job.command a.job.options a.job.budget (Err (failure.Usage text)) used refl a.uses
+  line_ends (Err (failure.Call call_error.NoMemory)) used a =
+      job_unused files a.job.report a.job.command a.job.options a.job.budget (Err (failure.Call call_error.NoMemory))
+      used refl a.uses
+  line_ends e used a = a
+
+  -- A line that is not taken reports nothing as used.
+  pub line_failed : (e : JobError) (used : Option Used) → used ≡ None
+      → LineEnds files after found (Err (of_line e)) used
+  line_failed (job_error.Usage text) used none = none
+  line_failed job_error.NoMemory used none = none
+
+  -- If memory ran out, nothing is reported as used.
+  pub unused_memory : (e : Failure) (used : Option Used) → code_of (status_of e) ≡ 6
+      → LineEnds files after found (Err e) used → used ≡ None
+  unused_memory (failure.Usage text) used six h = h
+  unused_memory (failure.Call call_error.NoMemory) used six h = h
+  unused_memory e used six h = absurd (omega (arith, six))
+
+  -- If the line is not taken, nothing is reported as used.
+  pub unused_usage : (e : Failure) (used : Option Used) → code_of (status_of e) ≡ 2
+      → (status_of e ≡ status.Usage → HasUsage e)
+      → LineEnds files after found (Err e) used → used ≡ None
+  unused_usage (failure.Usage text) used two told h = h
+  unused_usage failure.Words used two told h = absurd (told refl)
+  unused_usage (failure.Call call_error.NoMemory) used two told h = h
+  unused_usage e used two told h = absurd (omega (arith, two))
 
   -- The end of a line is that of its job, unless it is the usage or lack of memory.
-  pub job_ends : (e : Failure) → code_of (status_of e) ≢ 2 → code_of (status_of e) ≢ 6
-      → LineEnds files after found (Err e) → Answers files after found (Err e)
-  job_ends (failure.Usage text) u m h = absurd (u refl)
-  job_ends (failure.Call call_error.NoMemory) u m h = absurd (m refl)
-  job_ends e u m h = h
+  pub job_ends : (e : Failure) (used : Option Used) → code_of (status_of e) ≢ 2 → code_of (status_of e) ≢ 6
+      → LineEnds files after found (Err e) used
+      → Answers files after found (Err e) used
+  job_ends (failure.Usage text) used u m h = absurd (u refl)
+  job_ends (failure.Call call_error.NoMemory) used u m h = absurd (m refl)
+  job_ends e used u m h = h
 
 -- A line that is not taken fails with a text that is not empty.
 pub line_told : (e : JobError) → HasText e → status_of (of_line e) ≡ status.Usage → HasUsage (of_line e)
@@ -115,29 +145,42 @@ usage_told (failure.Call call_error.NoMemory) old new f two told says = absurd (
 usage_told e old new f two told says = absurd (omega (arith, two))
 
 -- A command that writes an image has the name of one that does.
-named : (name : Word) (rows : List Row) (k : Command) (o : Options) (b : Budget) (n : ℕ) → IsCommand name rows k o b n
+named : (name : Word) (rows : List Row) (k : Command) (o : Options) (b : Budget) (n : ℕ) (r : UseReport)
+    → IsCommand name rows k o b n r
     → IsWriting k → (name ≡ codes "compile") ⊎ (name ≡ codes "upgrade")
-named name rows (command.Compile dir template out) o b n h is = inl h.0
-named name rows (command.Upgrade image out) o b n h is = inr h.0
-named name rows k o b n h is = absurd is
+named name rows (command.Compile dir template out) o b n r h is = inl h.0
+named name rows (command.Upgrade image out) o b n r h is = inr h.0
+named name rows k o b n r h is = absurd is
+
+-- If a line is one of neither command that writes an image, its job writes none.
+pub not_writing : (found : Option (Word × List Row)) (j : Job) → IsAsked found j
+    → (option_map (λ c. c.0) found ≡ Some (codes "compile") → ⊥)
+    → (option_map (λ c. c.0) found ≡ Some (codes "upgrade") → ⊥)
+    → IsWriting j.command → ⊥
+not_writing None j asked compiles upgrades writes = absurd asked
+not_writing (Some c) j asked compiles upgrades writes =
+    ⊎_elim (λ e. compiles (ap Some e)) (λ e. upgrades (ap Some e))
+    (named c.0 c.1 j.command j.options j.budget j.slice j.report asked writes)
 
 module _ (files after : Known) where
   -- A command changes no file except OUT, if a command that writes no image changes none.
-  only_of : (name : Word) (rows : List Row) (k : Command) (o : Options) (b : Budget) (n : ℕ) (e : Ending)
-      → IsCommand name rows k o b n → CommandEnds files after k o b e
+  only_of : (name : Word) (rows : List Row) (k : Command) (o : Options) (b : Budget) (n : ℕ) (r : UseReport)
+      (e : Ending)
+      → IsCommand name rows k o b n r → CommandEnds files after k o b e
       → ((IsWriting k → ⊥) → ChangesOnly files after (word_of (codes "OUT") rows))
       → ChangesOnly files after (word_of (codes "OUT") rows)
-  only_of name rows (command.Compile dir template out) o b n e is ends kept =
+  only_of name rows (command.Compile dir template out) o b n r e is ends kept =
       subst (ChangesOnly files after) is.3 ends.0
-  only_of name rows (command.Upgrade image out) o b n e is ends kept = subst (ChangesOnly files after) is.2 ends.0
-  only_of name rows k o b n e is ends kept = kept (λ writes. writes)
+  only_of name rows (command.Upgrade image out) o b n r e is ends kept = subst (ChangesOnly files after) is.2 ends.0
+  only_of name rows k o b n r e is ends kept = kept (λ writes. writes)
 
   -- A line changes no file except OUT, if a job that writes no image changes none.
   pub only_out : (found : Option (Word × List Row)) (j : Job) (e : Ending) → IsAsked found j → JobEnds files after j e
       → ((IsWriting j.command → ⊥) → ChangesOnly files after (out_of found))
       → ChangesOnly files after (out_of found)
   only_out None j e asked ends kept = absurd asked
-  only_out (Some c) j e asked ends kept = only_of c.0 c.1 j.command j.options j.budget j.slice e asked ends kept
+  only_out (Some c) j e asked ends kept =
+      only_of c.0 c.1 j.command j.options j.budget j.slice j.report e asked ends kept
 
 -- If a job has an image to write, its line has one.
 pub line_writes : {A : Type 0} (files : Known) (found : Option (Word × List Row)) (j : Job) → IsAsked found j

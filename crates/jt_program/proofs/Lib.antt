@@ -2,3 +2,4 @@ mod Endings
 mod SourceCollection
 mod SinkLines
 mod PairStarts
+mod Uses

@@ -1,8 +1,9 @@
 -- Bytes that a sink takes in parts: all of them, or a beginning.
 use Rattle.std.proofs.Common.{◌≡◌, ◌∙◌, Bool, Bor, Global, List, Ok, Err, OnErr, OnOk, Option, Result, String, [], ◌+◌}
-use Rattle.std.proofs.Common.{◌++◌, ◌<◌, ◌≤◌, ◌∷◌, add-one, ap, append_assoc, arith, codes, drop, false, get_or, inl}
-use Rattle.std.proofs.Common.{inr, length, refl, sym, true, ℕ}
+use Rattle.std.proofs.Common.{Some, None, ◌++◌, ◌<◌, ◌≤◌, ◌∷◌, add-one, ap, append_assoc, arith, codes, drop, false}
+use Rattle.std.proofs.Common.{get_or, inl, inr, length, refl, sym, true, ℕ}
 use Rattle.std.proofs.Math.Seq.{drop-cons}
+use Rattle.std.proofs.lemmas.Bool.{true≢false}
 use Rattle.std.proofs.lemmas.List.{append-nil, drop_all}
 use Rattle.std.proofs.lemmas.List.Concat.{flat_map-append}
 use Rattle.std.proofs.KnownBytes.{Appends-trans}
@@ -64,6 +65,32 @@ module _ {E : Type 0} where
   pub puts_begun : (part rest : List ℕ) (old new : Option (List ℕ)) (f : Bool) (e : E) → Puts part old new f (Err e)
       → Puts (part ++ rest) old new f (Err e)
   puts_begun part rest old new f e p = (p.0, front_more part rest old new p.1)
+
+-- ---- two texts, one after the other
+
+-- What is known of a sink is what it was, with nothing more.
+none_more : (known : Option (List ℕ)) → Appends known known []
+none_more None = tt
+none_more (Some bytes) = sym (append-nil bytes)
+
+-- A sink that is left as it is has taken nothing more.
+pub took_nothing : (known : Option (List ℕ)) (f : Bool) → TookUnlessFailed [] known known f
+took_nothing known false = inl (refl, none_more known)
+took_nothing known true = inr (refl, ([], record { front = []; parts = refl; taken = none_more known }))
+
+-- A sink that works has taken all of the first text, so what it takes of the second one follows.
+pub took_both : (all more : List ℕ) (old mid new : Option (List ℕ)) (f g : Bool) → f ≡ false
+    → TookUnlessFailed all old mid f → TookUnlessFailed more mid new g
+    → TookUnlessFailed (all ++ more) old new g
+took_both all more old mid new f g works (inl a) (inl b) = inl (b.0, Appends-trans old mid new all more a.1 b.1)
+took_both all more old mid new f g works (inl a) (inr b) = inr (b.0, front_behind all more old mid new a.1 b.1)
+took_both all more old mid new f g works (inr a) b = absurd (true≢false (sym a.0 ∙ works))
+
+-- A sink that has failed has taken a beginning of the first text, and so of both.
+pub took_begun : (all more : List ℕ) (old new : Option (List ℕ)) (f : Bool) → f ≡ true → TookUnlessFailed all old new f
+    → TookUnlessFailed (all ++ more) old new f
+took_begun all more old new f fails (inl a) = absurd (true≢false (sym fails ∙ a.0))
+took_begun all more old new f fails (inr a) = inr (a.0, front_more all more old new a.1)
 
 -- ---- the parts of a line, in order
 

@@ -16,6 +16,9 @@ use Rattle.jt_image.specs.Reading.{Fails, code_of}
 use Rattle.jt_image.specs.declared.ImageError.TheVariants as image_error
 use Rattle.jt_show.specs.Listing.{listing}
 use Rattle.jt_machine.specs.View.{budget_view}
+use Rattle.jt_machine.specs.declared.Outcome.{Outcome as RunOutcome}
+use Rattle.jt_machine.specs.declared.Outcome.TheVariants as outcome
+use Rattle.jt_machine.specs.declared.Used.{Used}
 use Rattle.jt_contexts.specs.Json.{IsContext}
 use Rattle.jt_sessions.specs.Turns.{World, max_sessions}
 use Rattle.jt_sessions.specs.declared.HostError.TheVariants as host_error
@@ -25,13 +28,16 @@ use Rattle.jt_args.specs.declared.Command.{Command}
 use Rattle.jt_args.specs.declared.Command.TheVariants as command
 use Rattle.jt_args.specs.declared.Job.{Job}
 use Rattle.jt_args.specs.declared.Pair.{Pair}
+use Rattle.jt_args.specs.declared.UseReport.{UseReport}
+use Rattle.jt_args.specs.declared.UseReport.TheVariants as use_report
 use Rattle.jt_turns.specs.Lines.{session_lines}
 use Rattle.jt_turns.specs.Openings.{all_under}
 use Rattle.jt_turns.specs.Outcomes.{AreOutcomes}
 use Rattle.jt_turns.specs.SessionStates.{Stands}
 use Rattle.jt_turns.specs.declared.Start.{Start}
 use Rattle.jt_host.specs.Calls.{ComesTo, ExplainsTo, IsCounted, IsImage, IsImageOf, IsNoContext, IsNoImage}
-use Rattle.jt_host.specs.Calls.{IsNoUpgrade, IsUpgraded, RendersTo}
+use Rattle.jt_host.specs.Calls.{IsNoUpgrade, IsUpgraded, ListsNeeds, RendersTo}
+use Rattle.jt_host.specs.Metered.{ImageUses, TemplateUses}
 use Rattle.jt_host.specs.RunExplanations.{ExplainsRunTo}
 use Rattle.jt_host.specs.declared.CallError.{CallError}
 use Rattle.jt_host.specs.declared.CallError.TheVariants as call_error
@@ -52,6 +58,19 @@ FailsAs IsSo e = ⊥
 abbrev pub EndsAs : (Result (String Global) CallError → Type 0) → Ending → Type 0
 EndsAs IsSo (Ok text) = IsSo (Ok text)
 EndsAs IsSo (Err e) = FailsAs (λ error. IsSo (Err error)) e
+
+-- The end of a command whose run ends with this outcome.
+abbrev pub of_run : RunOutcome → Ending
+of_run (outcome.Text text) = Ok text
+of_run (outcome.Fault f q) = Err (failure.Call (call_error.Fault f q))
+of_run (outcome.Spent s) = Err (failure.Call (call_error.Spent s))
+
+-- The outcome of the run with which a command ended, or `None` if no run ended.
+abbrev pub run_end : Ending → Option RunOutcome
+run_end (Ok text) = Some (outcome.Text text)
+run_end (Err (failure.Call (call_error.Fault f q))) = Some (outcome.Fault f q)
+run_end (Err (failure.Call (call_error.Spent s))) = Some (outcome.Spent s)
+run_end (Err e) = None
 
 -- ---- the files that are read
 
@@ -179,12 +198,36 @@ module _ (files : Known) where
     pub given : IsContextAt files context pairs
     pub comes : EndsAs (RendersTo sources name options pairs b) e
 
+  -- The run of the image at a path for a context ends with this outcome, and uses this.
+  pub record RunUses (image : Text) (context : Option (String Global)) (b : Budget) (o : RunOutcome) (u : Used) :
+      Type 0 where
+    pub bytes : List ℕ
+    pub held : files.holds image bytes
+    pub pairs : Pairs
+    pub given : IsContextAt files context pairs
+    pub uses : ImageUses bytes pairs b o u
+
+  -- The run of the template of a name for a context ends with this outcome, and uses this.
+  pub record RenderUses (dir name : Text) (options : Options) (context : Option (String Global))
+      (b : Budget) (o : RunOutcome) (u : Used) : Type 0 where
+    pub sources : SourceTexts
+    pub library : IsLibrary files dir sources
+    pub pairs : Pairs
+    pub given : IsContextAt files context pairs
+    pub uses : TemplateUses sources name options pairs b o u
+
   -- The template of a name, from the files of a directory, is explained to a person: whether it
   -- compiles, and otherwise why not.
   pub record Diagnoses (dir name : Text) (options : Options) (e : Ending) : Type 0 where
     pub sources : SourceTexts
     pub library : IsLibrary files dir sources
     pub explained : EndsAs (ExplainsTo sources name options) e
+
+  -- The text lists what the template of a name needs, from the files of a directory.
+  pub record FindsNeeds (dir name : Text) (options : Options) (e : Ending) : Type 0 where
+    pub sources : SourceTexts
+    pub library : IsLibrary files dir sources
+    pub listed : EndsAs (ListsNeeds sources name options) e
 
   -- The template is explained as `Diagnoses` states, and if it compiles how its run for a context
   -- ends.
@@ -261,6 +304,29 @@ module _ (files : Known) where
   TakesTurns ps b (Err (failure.Call call_error.NoMemory)) = Unit {0}
   TakesTurns ps b (Err e) = StopsAt ps e
 
+-- What is reported as used is what the run used, if a run ended, and otherwise nothing.
+abbrev pub IsUse : (RunOutcome → Used → Type 0) → Option RunOutcome → Option Used → Type 0
+IsUse Uses (Some o) (Some u) = Uses o u
+IsUse Uses None None = Unit {0}
+IsUse Uses o u = ⊥
+
+module _ (files : Known) where
+  -- What a command reports as used. Only `run` and `render` have a run to report.
+  abbrev pub CommandUses : Command → Options → Budget → Ending → Option Used → Type 0
+  CommandUses (command.Run image context) o b e used =
+      IsUse (RunUses files (string_bytes image) context b) (run_end e) used
+  CommandUses (command.Render dir name context) o b e used =
+      IsUse (RenderUses files (string_bytes dir) (string_bytes name) o context b) (run_end e) used
+  CommandUses c o b e used = used ≡ None
+
+  -- Nothing is reported as used unless the line asks for it.
+  abbrev pub UsesIf : UseReport → Command → Options → Budget → Ending → Option Used → Type 0
+  UsesIf use_report.Omitted c o b e used = used ≡ None
+  UsesIf use_report.Written c o b e used = CommandUses c o b e used
+
+  abbrev pub JobUses : Job → Ending → Option Used → Type 0
+  JobUses j = UsesIf j.report j.command j.options j.budget
+
 module _ (files after : Known) where
   -- The template of a name, from the files of a directory, is compiled to an image at a path.
   pub record Compiles (dir name out : Text) (options : Options) (e : Ending) : Type 0 where
@@ -301,21 +367,25 @@ module _ (files after : Known) where
   CommandEnds (command.Upgrade image out) o b e = ChangesOnly (string_bytes out)
       × (IsUnread files (IsPath (string_bytes image)) None e
       ⊎ Upgrades (string_bytes image) (string_bytes out) e)
+  CommandEnds (command.Needs dir name) o b e =
+      IsUnread files (IsOfDirectory files (string_bytes dir)) None e
+      ⊎ FindsNeeds files (string_bytes dir) (string_bytes name) o e
 
   abbrev pub JobEnds : Job → Ending → Type 0
   JobEnds j = CommandEnds j.command j.options j.budget
 
-  -- The line of a command requests a job, which has this ending.
-  pub record Answers (found : Option (Word × List Row)) (e : Ending) : Type 0 where
+  -- The line of a command requests a job, which has this ending and reports this as used.
+  pub record Answers (found : Option (Word × List Row)) (e : Ending) (used : Option Used) : Type 0 where
     pub job : Job
     pub asked : IsAsked found job
     pub ends : JobEnds job e
+    pub uses : JobUses files job e used
 
   -- The line ends as `Answers` states, unless the program does not take it or memory ran out.
-  abbrev pub LineEnds : Option (Word × List Row) → Ending → Type 0
-  LineEnds found (Err (failure.Usage text)) = Unit {0}
-  LineEnds found (Err (failure.Call call_error.NoMemory)) = Unit {0}
-  LineEnds found e = Answers found e
+  abbrev pub LineEnds : Option (Word × List Row) → Ending → Option Used → Type 0
+  LineEnds found (Err (failure.Usage text)) used = used ≡ None
+  LineEnds found (Err (failure.Call call_error.NoMemory)) used = used ≡ None
+  LineEnds found e used = Answers found e used
 
 module _ (files : Known) where
   -- The template of a name, from the files of a directory, compiles to an image.

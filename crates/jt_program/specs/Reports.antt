@@ -1,7 +1,8 @@
 -- The reports of an ending: its status, and the bytes that both outputs take.
 use Rattle.std.specs.Prelude.{◌≡◌, ◌≢◌, ◌⊎◌, ◌<◌, ℕ, length, Bool, true, false, List, [], ◌∷◌, ◌++◌, Option, option_map}
-use Rattle.std.specs.Prelude.{Result, Ok, Err, codes, string_bytes}
+use Rattle.std.specs.Prelude.{Some, None, Result, Ok, Err, codes, string_bytes}
 use Rattle.std.specs.Borrow.{Bor}
+use Rattle.std.specs.Fmt.{decimal}
 use Rattle.std.specs.Io.KnownBytes.{Appends, Keeps}
 use Rattle.jt_ast.specs.Expressions.{Text}
 use Rattle.jt_value.specs.Place.{Place}
@@ -9,6 +10,7 @@ use Rattle.jt_value.specs.declared.Fault.{Fault}
 use Rattle.jt_image.specs.Config.{Limit}
 use Rattle.jt_machine.specs.Sinks.{TookFront}
 use Rattle.jt_machine.specs.View.{limit_view, place_view}
+use Rattle.jt_machine.specs.declared.Used.{Used}
 use Rattle.jt_turns.specs.Lines.{placed_fault, limit_name}
 use Rattle.jt_turns.specs.Shown.{one_line}
 use Rattle.jt_host.specs.Reasons.{error_text}
@@ -77,36 +79,44 @@ file_line path = one_line (codes "jt: file " ++ path)
 abbrev pub memory_line : Text
 memory_line = one_line (codes "jt: no memory")
 
--- The bytes that standard error takes: the usage, or the line of a fault, a refusal, a spent number,
--- a file or lack of memory. It takes only a beginning of that if the sink has failed.
+-- The usage, or the line of a fault, a refusal, a spent number, a file or lack of memory.
+abbrev pub failure_text : Failure → Text
+failure_text (failure.Usage text) = string_bytes text
+failure_text failure.Words = one_line (codes "jt: usage")
+failure_text (failure.Call (call_error.Fault fault place)) = fault_line fault (option_map place_view place)
+failure_text (failure.Call (call_error.Spent spent)) = spent_line (limit_view spent)
+failure_text (failure.File path) = file_line (string_bytes path)
+failure_text failure.Output = file_line (codes "-")
+failure_text (failure.Call call_error.NoMemory) = memory_line
+failure_text (failure.Call e) = refused_line (error_text e)
+failure_text (failure.Host e) = refused_line (host_text e)
+
+-- Standard error takes the text of a failure, or only a beginning of it if the sink has failed.
 abbrev pub ReportsFailure : Option (List ℕ) → Option (List ℕ) → Bool → Failure → Type 0
-ReportsFailure old new sink_failed (failure.Usage text) =
-    TookUnlessFailed (string_bytes text) old new sink_failed
-ReportsFailure old new sink_failed failure.Words =
-    TookUnlessFailed (one_line (codes "jt: usage")) old new sink_failed
-ReportsFailure old new sink_failed (failure.Call (call_error.Fault fault place)) =
-    TookUnlessFailed (fault_line fault (option_map place_view place)) old new sink_failed
-ReportsFailure old new sink_failed (failure.Call (call_error.Spent spent)) =
-    TookUnlessFailed (spent_line (limit_view spent)) old new sink_failed
-ReportsFailure old new sink_failed (failure.File path) =
-    TookUnlessFailed (file_line (string_bytes path)) old new sink_failed
-ReportsFailure old new sink_failed failure.Output =
-    TookUnlessFailed (file_line (codes "-")) old new sink_failed
-ReportsFailure old new sink_failed (failure.Call call_error.NoMemory) =
-    TookUnlessFailed memory_line old new sink_failed
-ReportsFailure old new sink_failed (failure.Call e) =
-    TookUnlessFailed (refused_line (error_text e)) old new sink_failed
-ReportsFailure old new sink_failed (failure.Host e) =
-    TookUnlessFailed (refused_line (host_text e)) old new sink_failed
+ReportsFailure old new sink_failed e = TookUnlessFailed (failure_text e) old new sink_failed
+
+-- The line of what a run used of its budget.
+abbrev pub used_line : Used → Text
+used_line u = one_line (codes "jt: used fuel " ++ (decimal u.fuel
+    ++ (codes " depth " ++ (decimal u.depth ++ (codes " output " ++ (decimal u.output
+    ++ (codes " size " ++ (decimal u.size ++ (codes " nesting " ++ decimal u.nesting)))))))))
+
+-- The line of what a run used, if that is to be reported.
+abbrev pub use_text : Option Used → Text
+use_text None = []
+use_text (Some u) = used_line u
 
 -- Standard error takes a usage: some text that is not empty.
 abbrev pub ReportsUsage : Option (List ℕ) → Option (List ℕ) → Bool → Type 0
 ReportsUsage old new sink_failed =
     (text : Text) × (0 < length text) × TookUnlessFailed text old new sink_failed
 
--- The bytes that standard error takes for a command that failed, or for one that succeeded but
--- whose text could not be written.
-abbrev pub Explains : Option (List ℕ) → Option (List ℕ) → Bool → Ending → ℕ → Type 0
-Explains old new sink_failed (Ok text) status =
-    status ≢ 0 → ReportsFailure old new sink_failed failure.Output
-Explains old new sink_failed (Err e) status = ReportsFailure old new sink_failed e
+-- The bytes that standard error takes for a command. For one that failed they are the text of the
+-- failure, and then what its run used; for one that succeeded what its run used, or the line of
+-- standard output if that has failed.
+abbrev pub Explains : Option (List ℕ) → Option (List ℕ) → Bool → Ending → Option Used → ℕ → Type 0
+Explains old new sink_failed (Ok text) used status =
+    (status ≡ 0 → TookUnlessFailed (use_text used) old new sink_failed)
+    × (status ≢ 0 → ReportsFailure old new sink_failed failure.Output)
+Explains old new sink_failed (Err e) used status =
+    TookUnlessFailed (failure_text e ++ use_text used) old new sink_failed

@@ -13,7 +13,7 @@ mod system;
 mod turns;
 
 pub use files::{FileError, Files};
-pub use jt_args::{Command, Job, JobError, Options, Pair, job};
+pub use jt_args::{Command, Job, JobError, Options, Pair, UseReport, job};
 pub use messages::{Failure, Status};
 pub use program::perform;
 pub use reports::report;

@@ -1,19 +1,22 @@
 //! Performs a line of the program.
 ghost use Rattle.std.specs.Prelude.{◌≡◌, ◌≢◌, ◌≤◌, ◌⊎◌, ◌++◌, ℕ, true, List, [], ◌∷◌, Ok, Err, map};
-ghost use Rattle.std.specs.Prelude.{codes, string_bytes, None, IfOk, IfErr, IsErrOf, OnOk};
+ghost use Rattle.std.specs.Prelude.{codes, string_bytes, Option, None, IfOk, IfErr, IsErrOf, OnOk};
 ghost use Rattle.std.specs.List.Sorted.{IsPermutation, IsSorted};
 ghost use Rattle.std.specs.String.{string_cmp};
 ghost use Rattle.clap.specs.Walk.{texts};
 ghost use Rattle.clap.specs.Words.{subcommand_of};
 ghost use Rattle.jt_value.specs.ContextView.{pairs_of};
-ghost use Rattle.jt_args.specs.Line.{Takes, Asks, program_app};
+ghost use Rattle.jt_machine.specs.declared.Used.{Used as RunUse};
+ghost use Rattle.jt_args.specs.Line.{Takes, Asks, AsksReport, program_app};
 ghost use Rattle.jt_program.specs.Commands.{Answers, ChangesOnly, Checks, Compiles, Diagnoses};
 ghost use Rattle.jt_program.specs.Commands.{DiagnosesFor, DiagnosesRun};
-ghost use Rattle.jt_program.specs.Commands.{Ending, HasImage, HasUpgrade, IsContextAt, IsOfContext};
+ghost use Rattle.jt_program.specs.Commands.{Ending, FindsNeeds, HasImage, HasUpgrade};
+ghost use Rattle.jt_program.specs.Commands.{IsContextAt, IsOfContext};
 ghost use Rattle.jt_program.specs.Commands.{IsPath, IsUnread, IsWriting, JobEnds, LacksImage};
 ghost use Rattle.jt_program.specs.Commands.{LacksTemplates, LineEnds};
 ghost use Rattle.jt_program.specs.Commands.{LineWrites, Renders, Runs, Shows, Upgrades};
-ghost use Rattle.jt_program.specs.Commands.{WritesImage, out_of};
+ghost use Rattle.jt_program.specs.Commands.{JobUses, RenderUses, RunUses, WritesImage};
+ghost use Rattle.jt_program.specs.Commands.{of_run, out_of, run_end};
 ghost use Rattle.jt_program.specs.Ending.{HasUsage, IfUntaken, status_of};
 ghost use Rattle.jt_program.specs.Files.{AreSources, IsLibrary, IsOfDirectory, path_in};
 ghost use Rattle.jt_program.specs.Reports.{Explains, Prints, ReportsUsage, TookUnlessFailed};
@@ -22,15 +25,15 @@ ghost use Rattle.jt_host.specs.Templates.{source_of};
 
 use crate::files::{FileError, Files};
 use crate::messages::{Failure, Status, no_file};
-use crate::reports::report;
+use crate::reports::{report, report_run, report_use};
 use crate::turns::run_turns;
-use jt_args::{Command, Job, job};
+use jt_args::{Command, Job, UseReport, job};
 use jt_budget::Budget;
 use jt_host::{
-    EntryTemplate, Templates, context_of, counts_of, explained, explained_run, image_of,
-    render_text, run_image, upgraded,
+    EntryTemplate, MeteredOutcome, Templates, context_of, counts_of, explained, explained_run,
+    image_of, listed_needs, meter_image, meter_template, render_text, run_image, upgraded,
 };
-use jt_machine::{Sink, put_all};
+use jt_machine::{Sink, Used, put_all};
 use jt_scan::Options;
 use jt_show::listing_of;
 use jt_value::Context;
@@ -41,7 +44,8 @@ use std::alloc::Global;
 ///
 /// The text goes to `out`, with nothing added. If the status is not 0, `out` receives nothing, or a
 /// beginning of the text if `out` failed. `errors` then receives the reason: the usage or one line,
-/// or a beginning of it if `errors` failed.
+/// or a beginning of it if `errors` failed. If the line asks for it and its run ended, `errors`
+/// receives one line more: what the run used of its budget.
 pub fn perform<F: Files, W: Sink, E: Sink>(
     alloc: Global,
     words: &[&str],
@@ -60,20 +64,22 @@ pub fn perform<F: Files, W: Sink, E: Sink>(
         (E.failed errors.new) }
     // Unless the status is 2 or 6, it and both outputs report how the command of the line ended
     // over the files as they were. A fault, a refusal, a spent number and a file are reported by
-    // their lines.
+    // their lines. The line of what a run used follows, if the line of the command asks for it.
     ensures ends { result ≢ 2
         → result ≢ 6
         → (e : Ending)
+        × (used : Option RunUse)
         × Answers (F.known (F.contents files.old)) (F.known (F.contents files.new))
-        (subcommand_of program_app (texts words.now)) e
+        (subcommand_of program_app (texts words.now)) e used
         × Prints (W.taken out.old) (W.taken out.new) (W.failed out.new) e result
-        × Explains (E.taken errors.old) (E.taken errors.new) (E.failed errors.new) e result }
+        × Explains (E.taken errors.old) (E.taken errors.new) (E.failed errors.new) e used result }
     // If the status is 6, lack of memory is reported by its line.
     ensures memory { result ≡ 6
         → TookUnlessFailed memory_line (E.taken errors.old) (E.taken errors.new)
         (E.failed errors.new) }
-    // If the status is 0, nothing was added to standard error.
-    ensures silent { result ≡ 0 → errors.new ≡ errors.old }
+    // If the status is 0, nothing was added to standard error, unless the line asks for what its
+    // run used.
+    ensures silent { result ≡ 0 → ¬ AsksReport (texts words.now) → errors.new ≡ errors.old }
     // If the status is neither 0 nor 5, standard output is as it was.
     ensures untouched { result ≢ 0 → result ≢ 5 → out.new ≡ out.old }
     // Standard output is also as it was if it had failed before.
@@ -95,29 +101,40 @@ pub fn perform<F: Files, W: Sink, E: Sink>(
         → result ≢ 6
         → F.contents files.new ≡ F.contents files.old }
 {
-    match perform_line(alloc, words, files) {
-        Ok(text) => print(text, out, errors),
-        Err(failure) => report(errors, &failure),
+    let mut used = None;
+    match perform_line(alloc, words, files, &mut used) {
+        Ok(text) => print(text, used, out, errors),
+        Err(failure) => report_run(errors, &failure, used),
     }
 }
 
-/// Prints the text of a command that succeeded, and returns the status.
-fn print<W: Sink, E: Sink>(text: String, out: &mut W, errors: &mut E) -> u8
+/// Prints the text of a command that succeeded, reports what its run used, and returns the status.
+fn print<W: Sink, E: Sink>(text: String, used: Option<Used>, out: &mut W, errors: &mut E) -> u8
     ensures printed { Prints (W.taken out.old) (W.taken out.new) (W.failed out.new) (Ok text)
         result }
     ensures failed_before { W.failed out.old ≡ true → out.new ≡ out.old }
-    ensures silent { result ≡ 0 → errors.new ≡ errors.old }
+    ensures silent { result ≡ 0 → used ≡ None → errors.new ≡ errors.old }
     ensures explained { Explains (E.taken errors.old) (E.taken errors.new) (E.failed errors.new)
-        (Ok text) result }
+        (Ok text) used result }
 {
     match put_all(out, text.as_bytes()) {
-        Ok(()) => Status::Done.code(),
+        Ok(()) => {
+            report_use(errors, used);
+            Status::Done.code()
+        }
         Err(_) => report(errors, &Failure::Output),
     }
 }
 
-/// Performs the line except for printing, and returns the text to print.
-fn perform_line<F: Files>(alloc: Global, words: &[&str], files: &mut F) -> Result<String, Failure>
+/// Performs the line except for printing, and returns the text to print. Stores in `used` what its
+/// run used, if the line asks for that and the run ended.
+fn perform_line<F: Files>(
+    alloc: Global,
+    words: &[&str],
+    files: &mut F,
+    used: &mut Option<Used>,
+) -> Result<String, Failure>
+    requires fresh { used.old ≡ None }
     ensures usage { ¬ Takes (texts words.now) → IfUntaken result }
     ensures taken { Takes (texts words.now)
         → IfErr result (λ e. (status_of e ≢ Status.Usage) × (e ≢ Failure.Output)) }
@@ -136,14 +153,108 @@ fn perform_line<F: Files>(alloc: Global, words: &[&str], files: &mut F) -> Resul
         ⊎ LineWrites (F.known (F.contents files.old))
         (subcommand_of program_app (texts words.now)) }
     ensures ends { LineEnds (F.known (F.contents files.old)) (F.known (F.contents files.new))
-        (subcommand_of program_app (texts words.now)) result }
+        (subcommand_of program_app (texts words.now)) result used.new }
+    ensures quiet { ¬ AsksReport (texts words.now) → used.new ≡ None }
 {
     let job = job(alloc, words)?;
-    perform_job(alloc, job, files)
+    perform_job(alloc, job, files, used)
 }
 
-/// Performs a job except for printing, and returns the text to print.
-fn perform_job<F: Files>(alloc: Global, job: Job, files: &mut F) -> Result<String, Failure>
+/// Performs a job except for printing, and returns the text to print. Stores in `used` what its run
+/// used, if the job asks for that and the run ended.
+fn perform_job<F: Files>(
+    alloc: Global,
+    job: Job,
+    files: &mut F,
+    used: &mut Option<Used>,
+) -> Result<String, Failure>
+    requires fresh { used.old ≡ None }
+    ensures ends { JobEnds (F.known (F.contents files.old)) (F.known (F.contents files.new)) job
+        result }
+    ensures uses { JobUses (F.known (F.contents files.old)) job result used.new }
+    ensures kept { ¬ IsWriting job.command → F.contents files.new ≡ F.contents files.old }
+    ensures unwritten { IfErr result
+        (λ e. status_of e ≢ Status.File
+        → status_of e ≢ Status.Memory
+        → F.contents files.new ≡ F.contents files.old) }
+    ensures touched { F.contents files.new ≡ F.contents files.old
+        ⊎ WritesImage (F.known (F.contents files.old)) job.command job.options }
+    ensures other { IfErr result (λ e. (status_of e ≢ Status.Usage) × (e ≢ Failure.Output)) }
+{
+    match job.report {
+        UseReport::Omitted => perform_command(alloc, job, files),
+        UseReport::Written => perform_metered(alloc, job, files, used),
+    }
+}
+
+/// Performs a job as `perform_command` does, but counts what a run uses, and stores it in `used`.
+#[inline(never)]
+fn perform_metered<F: Files>(
+    alloc: Global,
+    job: Job,
+    files: &mut F,
+    used: &mut Option<Used>,
+) -> Result<String, Failure>
+    requires fresh { used.old ≡ None }
+    requires written { job.report ≡ UseReport.Written }
+    ensures ends { JobEnds (F.known (F.contents files.old)) (F.known (F.contents files.new)) job
+        result }
+    ensures uses { JobUses (F.known (F.contents files.old)) job result used.new }
+    ensures kept { ¬ IsWriting job.command → F.contents files.new ≡ F.contents files.old }
+    ensures unwritten { IfErr result
+        (λ e. status_of e ≢ Status.File
+        → status_of e ≢ Status.Memory
+        → F.contents files.new ≡ F.contents files.old) }
+    ensures touched { F.contents files.new ≡ F.contents files.old
+        ⊎ WritesImage (F.known (F.contents files.old)) job.command job.options }
+    ensures other { IfErr result (λ e. (status_of e ≢ Status.Usage) × (e ≢ Failure.Output)) }
+{
+    let Job {
+        command,
+        options,
+        budget,
+        slice,
+        report,
+    } = job;
+    match command {
+        Command::Run { image, context } => {
+            let metered = run_metered_at(alloc, files, image, context, budget);
+            keep_use(metered, used)
+        }
+        Command::Render { dir, name, context } => {
+            let entry = EntryFile { dir, name, options };
+            let metered = render_metered_in(alloc, files, entry, context, budget);
+            keep_use(metered, used)
+        }
+        other => {
+            let job = Job {
+                command: other,
+                options,
+                budget,
+                slice,
+                report,
+            };
+            perform_command(alloc, job, files)
+        }
+    }
+}
+
+/// Returns the text of a run that was counted, and stores what the run used in `used`.
+fn keep_use(
+    metered: Result<MeteredOutcome, Failure>,
+    used: &mut Option<Used>,
+) -> Result<String, Failure>
+    ensures ended { IfOk metered
+        (λ m. (result ≡ of_run m.outcome) × (used.new ≡ Some m.used)) }
+    ensures failed { IfErr metered (λ e. (result ≡ Err e) × (used.new ≡ used.old)) }
+{
+    let metered = metered?;
+    *used = Some(metered.used);
+    Ok(metered.into_text()?)
+}
+
+/// Performs a job except for printing, and returns the text to print. Counts nothing.
+fn perform_command<F: Files>(alloc: Global, job: Job, files: &mut F) -> Result<String, Failure>
     ensures ends { JobEnds (F.known (F.contents files.old)) (F.known (F.contents files.new)) job
         result }
     ensures kept { ¬ IsWriting job.command → F.contents files.new ≡ F.contents files.old }
@@ -160,6 +271,7 @@ fn perform_job<F: Files>(alloc: Global, job: Job, files: &mut F) -> Result<Strin
         options,
         budget,
         slice,
+        report: _,
     } = job;
     match command {
         Command::Compile { dir, name, out } => {
@@ -179,6 +291,7 @@ fn perform_job<F: Files>(alloc: Global, job: Job, files: &mut F) -> Result<Strin
         }
         Command::Turns { sessions } => run_turns(alloc, files, sessions, budget, slice),
         Command::Upgrade { image, out } => upgrade_to(alloc, files, image, out),
+        Command::Needs { dir, name } => needs_in(alloc, files, EntryFile { dir, name, options }),
     }
 }
 
@@ -295,6 +408,25 @@ fn explain_run_in<F: Files>(
     Ok(explained_run(alloc, &entry, &context, budget)?)
 }
 
+/// Returns the lines that list what the entry needs.
+#[inline(never)]
+fn needs_in<F: Files>(alloc: Global, files: &mut F, entry: EntryFile) -> Result<String, Failure>
+    ensures ends { IsUnread (F.known (F.contents files.old))
+        (IsOfDirectory (F.known (F.contents files.old)) (string_bytes entry.dir)) None result
+        ⊎ FindsNeeds (F.known (F.contents files.old)) (string_bytes entry.dir)
+        (string_bytes entry.name) entry.options result }
+    ensures kept { F.contents files.new ≡ F.contents files.old }
+{
+    let EntryFile { dir, name, options } = entry;
+    let templates = templates_in(alloc, files, dir)?;
+    let entry = EntryTemplate {
+        name: name.as_str(),
+        templates: &templates,
+        options,
+    };
+    Ok(listed_needs(alloc, &entry)?)
+}
+
 /// Writes the image at a path in version 2 to the file at `out`. Returns an empty text.
 #[inline(never)]
 fn upgrade_to<F: Files>(
@@ -365,6 +497,67 @@ fn run_at<F: Files>(
     // The context is not dropped: the process ends soon and frees all its memory.
     std::mem::forget(context);
     Ok(text?)
+}
+
+/// Runs the image at a path for the context of a file, and counts what the run uses.
+#[inline(never)]
+fn run_metered_at<F: Files>(
+    alloc: Global,
+    files: &mut F,
+    image: String,
+    context: Option<String>,
+    budget: Budget,
+) -> Result<MeteredOutcome, Failure>
+    ensures uses { IfOk result
+        (λ m. RunUses (F.known (F.contents files.old)) (string_bytes image) context budget m.outcome
+        m.used) }
+    ensures err { IfErr result
+        (λ e. LacksImage (F.known (F.contents files.old)) (string_bytes image) context (Err e)
+        ⊎ Runs (F.known (F.contents files.old)) (string_bytes image) context budget (Err e)) }
+    ensures unended { IfErr result (λ e. run_end (Err e) ≡ None) }
+    ensures other { IfErr result (λ e. (status_of e ≢ Status.Usage) × (e ≢ Failure.Output)) }
+    ensures kept { F.contents files.new ≡ F.contents files.old }
+{
+    let image = bytes_at(files, image)?;
+    let context = context_at(alloc, files, context)?;
+    let metered = meter_image(alloc, &image, &context, budget);
+    // The context is not dropped, as in `run_at`.
+    std::mem::forget(context);
+    Ok(metered?)
+}
+
+/// Renders the entry for the context of a file, and counts what the run uses.
+#[inline(never)]
+fn render_metered_in<F: Files>(
+    alloc: Global,
+    files: &mut F,
+    entry: EntryFile,
+    context: Option<String>,
+    budget: Budget,
+) -> Result<MeteredOutcome, Failure>
+    ensures uses { IfOk result
+        (λ m. RenderUses (F.known (F.contents files.old)) (string_bytes entry.dir)
+        (string_bytes entry.name) entry.options context budget m.outcome m.used) }
+    ensures err { IfErr result
+        (λ e. LacksTemplates (F.known (F.contents files.old)) (string_bytes entry.dir) context
+        (Err e)
+        ⊎ Renders (F.known (F.contents files.old)) (string_bytes entry.dir)
+        (string_bytes entry.name) entry.options context budget (Err e)) }
+    ensures unended { IfErr result (λ e. run_end (Err e) ≡ None) }
+    ensures other { IfErr result (λ e. (status_of e ≢ Status.Usage) × (e ≢ Failure.Output)) }
+    ensures kept { F.contents files.new ≡ F.contents files.old }
+{
+    let EntryFile { dir, name, options } = entry;
+    let (templates, context) = inputs_in(alloc, files, dir, context)?;
+    let entry = EntryTemplate {
+        name: name.as_str(),
+        templates: &templates,
+        options,
+    };
+    let metered = meter_template(alloc, &entry, &context, budget);
+    // The context is not dropped, as in `run_at`.
+    std::mem::forget(context);
+    Ok(metered?)
 }
 
 /// Renders the entry for the context of a file, and returns its text.

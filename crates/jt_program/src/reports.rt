@@ -1,17 +1,18 @@
 //! Reports failures on standard error.
-ghost use Rattle.std.specs.Prelude.{◌≡◌, ◌++◌, codes, option_map};
+ghost use Rattle.std.specs.Prelude.{◌≡◌, ◌++◌, None, codes, option_map};
 ghost use Rattle.jt_machine.specs.View.{place_view};
 ghost use Rattle.jt_turns.specs.Shown.{escape, one_line, shown};
 ghost use Rattle.jt_program.specs.Ending.{code_of, status_of};
 ghost use Rattle.jt_program.specs.declared.messages.Failure.TheVariants.{Call};
 ghost use Rattle.jt_host.specs.Reasons.{reason_text};
 ghost use Rattle.jt_program.specs.Reports.{Puts, ReportsFailure, TookUnlessFailed};
-ghost use Rattle.jt_program.specs.Reports.{fault_line, host_text, refused_line, texts_of};
+ghost use Rattle.jt_program.specs.Reports.{failure_text, fault_line, host_text, refused_line};
+ghost use Rattle.jt_program.specs.Reports.{texts_of, use_text, used_line};
 
 use crate::messages::Failure;
 use itoa::Buffer;
 use jt_host::{CallError, HostError, Reason};
-use jt_machine::{Place, Sink, SinkFailed, put_all};
+use jt_machine::{Place, Sink, SinkFailed, Used, put_all};
 use jt_turns::{hex_digits, limit_text};
 use jt_value::Fault;
 
@@ -33,6 +34,99 @@ pub fn report<E: Sink>(errors: &mut E, failure: &Failure) -> u8
         Failure::Output => report_line(errors, &["jt: file ", "-"]),
     }
     failure.status().code()
+}
+
+/// Reports a failure on `errors` as `report` does, and then what the run used. Returns the status.
+pub(crate) fn report_run<E: Sink>(errors: &mut E, failure: &Failure, used: Option<Used>) -> u8
+    ensures status { result ≡ code_of (status_of failure.now) }
+    ensures reported { TookUnlessFailed (failure_text failure.now ++ use_text used)
+        (E.taken errors.old) (E.taken errors.new) (E.failed errors.new) }
+{
+    let status = report(errors, failure);
+    if errors.has_failed() {
+        return status;
+    }
+    report_use(errors, used);
+    status
+}
+
+/// Writes the line of what a run used to `errors`, if that is to be reported.
+pub(crate) fn report_use<E: Sink>(errors: &mut E, used: Option<Used>)
+    ensures reported { TookUnlessFailed (use_text used) (E.taken errors.old) (E.taken errors.new)
+        (E.failed errors.new) }
+    ensures silent { used ≡ None → errors.new ≡ errors.old }
+{
+    match used {
+        Some(used) => report_used(errors, used),
+        None => {}
+    }
+}
+
+/// Writes the line of what a run used to `errors`.
+fn report_used<E: Sink>(errors: &mut E, used: Used)
+    ensures { TookUnlessFailed (used_line used) (E.taken errors.old) (E.taken errors.new)
+        (E.failed errors.new) }
+{
+    let mut fuel = Buffer::new();
+    let mut depth = Buffer::new();
+    let mut output = Buffer::new();
+    let mut size = Buffer::new();
+    let mut nesting = Buffer::new();
+    let fuel = fuel.format(used.fuel);
+    let depth = depth.format(used.depth);
+    let output = output.format(used.output);
+    let size = size.format(used.size);
+    let nesting = nesting.format(used.nesting);
+    let numbers = UsedNumbers {
+        fuel,
+        depth,
+        output,
+        size,
+        nesting,
+    };
+    report_numbers(errors, &numbers);
+}
+
+/// The numbers of the budget that a run used, as texts.
+#[derive(Clone, Copy)]
+struct UsedNumbers<'a> {
+    fuel: &'a str,
+    depth: &'a str,
+    output: &'a str,
+    size: &'a str,
+    nesting: &'a str,
+}
+
+/// Writes the line of numbers that a run used to `errors`.
+fn report_numbers<E: Sink>(errors: &mut E, used: &UsedNumbers<'_>)
+    ensures { TookUnlessFailed (one_line (codes "jt: used fuel " ++ (used.now.fuel.now
+        ++ (codes " depth " ++ (used.now.depth.now ++ (codes " output " ++ (used.now.output.now
+        ++ (codes " size " ++ (used.now.size.now
+        ++ (codes " nesting " ++ used.now.nesting.now))))))))))
+        (E.taken errors.old) (E.taken errors.new) (E.failed errors.new) }
+{
+    let UsedNumbers {
+        fuel,
+        depth,
+        output,
+        size,
+        nesting,
+    } = *used;
+    report_line(
+        errors,
+        &[
+            "jt: used fuel ",
+            fuel,
+            " depth ",
+            depth,
+            " output ",
+            output,
+            " size ",
+            size,
+            " nesting ",
+            nesting,
+        ],
+    );
 }
 
 /// Writes the line of an error of a call to `errors`.

@@ -39,9 +39,14 @@ class Used:
     fuel: int
     output: int
     depth: int
+    size: int
+    nesting: int
 
     def __str__(self) -> str:
-        return f"fuel {self.fuel} depth {self.depth} output {self.output}"
+        return (
+            f"fuel {self.fuel} depth {self.depth} output {self.output}"
+            f" size {self.size} nesting {self.nesting}"
+        )
 
 
 class JtError(Exception):

@@ -76,7 +76,13 @@ class Numbers(ctypes.Structure):
 class UsedNumbers(ctypes.Structure):
     """What a run has used, as `struct jt_used`."""
 
-    _fields_: _Fields = [("fuel", _U64), ("output", _U64), ("depth", _U32)]
+    _fields_: _Fields = [
+        ("fuel", _U64),
+        ("output", _U64),
+        ("depth", _U32),
+        ("size", _U32),
+        ("nesting", _U8),
+    ]
 
 
 class _Handle(ctypes.Structure):

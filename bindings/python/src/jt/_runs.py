@@ -124,7 +124,7 @@ class Run(Closing):
         `ValueError` if the run is closed, or on another thread.
         """
         found: UsedNumbers = library.jt_run_used(self._held())
-        return Used(found.fuel, found.output, found.depth)
+        return Used(found.fuel, found.output, found.depth, found.size, found.nesting)
 
     def close(self) -> None:
         """Stops the run and frees it: on its thread now, else at its thread's next call or end."""
@@ -226,9 +226,9 @@ class Watch:
         self.fuel_at_once = _MOST_WATCHED_FUEL if is_watched else MOST_FUEL
         self.deadline = _NEVER if timeout is None else time.monotonic() + _seconds(timeout)
         if timeout is not None and timeout <= 0:
-            raise TimeoutError(Used(0, 0, 0))
+            raise TimeoutError(Used(0, 0, 0, 0, 0))
         if cancel is not None and _flag(cancel).is_set():
-            raise Cancelled(Used(0, 0, 0))
+            raise Cancelled(Used(0, 0, 0, 0, 0))
 
     def check(self, run: Run) -> float:
         """Returns the time.

@@ -1,6 +1,6 @@
 -- The tags that break a rule on the blocks, macros and imports of templates. Only private clauses
 -- cite this module.
-use Rattle.std.specs.Prelude.{◌≡◌, ◌&&◌, Bool, false, true, List, [], ◌∷◌, Option, Some, None, string_bytes, ℕ}
+use Rattle.std.specs.Prelude.{◌≡◌, ◌&&◌, Bool, false, true, IsTrue, List, [], ◌∷◌, Option, Some, None, string_bytes, ℕ}
 use Rattle.std.specs.Option.{is_none}
 use Rattle.jt_ast.specs.Expressions.{Text}
 use Rattle.jt_chains.specs.Chain.{Sources, Namespace, a_library, Template, is_a_library, macros, public_macro}
@@ -8,7 +8,8 @@ use Rattle.jt_chains.specs.Chain.{templates}
 use Rattle.jt_chains.specs.View.{its_sources, namespace_in}
 use Rattle.jt_chains.specs.declared.chain.Chain.{Chain}
 use Rattle.jt_inherit.specs.Findings.{ForSome, HasTag, HasTwoTags, IsNotGiven, HasNoSuper, binds_macro, is_block}
-use Rattle.jt_inherit.specs.Findings.{defines}
+use Rattle.jt_inherit.specs.Findings.{defines, may_be_bare}
+use Rattle.jt_uses.specs.Uses.{Use, Site}
 use Rattle.jt_inherit.specs.declared.error.ChainError.{ChainError}
 use Rattle.jt_inherit.specs.declared.error.ChainError.TheVariants as error
 use Rattle.jt_inherit.specs.declared.finding.ChainFinding.{ChainFinding}
@@ -22,10 +23,19 @@ use Rattle.jt_inherit.specs.internal.RuleTests.{BreakOne, KeepAll, any_double}
 abbrev pub lacks : Sources → Text → Text → Bool
 lacks s library x = is_a_library (s library) && is_none (public_macro x (macros s (a_library library)))
 
--- The library of the missing macro lacks it, or the test is false.
-abbrev pub Misses : Sources → Bool → Option MissingMacro → Type 0
-Misses s b None = b ≡ false
-Misses s b (Some m) = (b ≡ true) × (lacks s m.library.now m.name.now ≡ true)
+-- The use imports the missing macro.
+abbrev pub imports_it : MissingMacro → Use → Bool
+imports_it m = binds_macro m.library.now m.name.now
+
+-- The test is true, and the library of the missing macro lacks it; or the test is false. The macro has
+-- the property.
+abbrev pub Misses : Sources → Bool → (MissingMacro → Type 0) → Option MissingMacro → Type 0
+Misses s b P None = b ≡ false
+Misses s b P (Some m) = (b ≡ true) × (lacks s m.library.now m.name.now ≡ true) × P m
+
+-- One of the uses imports the missing macro.
+abbrev pub IsImported : List Site → MissingMacro → Type 0
+IsImported ss m = ForSome (λ s. imports_it m s.made ≡ true) ss
 
 module _ (s : Sources) (ts : List Template) where
   -- The tag of the templates breaks the rule in the subject.
@@ -42,7 +52,7 @@ module _ (s : Sources) (ts : List Template) where
   BrokenIn x e p = ⊥
 
   abbrev pub RuleAt : Option TagPlace → Option ChainSubject → ChainError → Type 0
-  RuleAt None None e = Unit {0}
+  RuleAt None None e = IsTrue (may_be_bare e)
   RuleAt (Some p) (Some x) e = BrokenIn x e p
   RuleAt p x e = ⊥
 
@@ -51,7 +61,6 @@ module _ (s : Sources) (ts : List Template) where
 
 -- The template has two blocks of one name at the places.
 abbrev pub TwiceAt : Template → Option TagPlace → Option ChainSubject → Type 0
-TwiceAt t None None = Unit {0}
 TwiceAt t (Some p) (Some (v.BlockTwice x first)) = HasTwoTags (is_block (string_bytes x)) (t ∷ []) first p
 TwiceAt t p x = ⊥
 

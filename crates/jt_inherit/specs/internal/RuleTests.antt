@@ -1,7 +1,8 @@
 -- The rules on the blocks, macros and imports of the templates of a chain or a library. Only
 -- private clauses cite this module.
-use Rattle.std.specs.Prelude.{◌≡◌, true, false, Bool, List, map, flat_map, filter}
+use Rattle.std.specs.Prelude.{◌≡◌, ℕ, true, false, Bool, List, length, map, flat_map, filter, Option, Some, None}
 use Rattle.std.specs.List.{list_any}
+use denote.Ref.{Bor}
 use Rattle.jt_ast.specs.Expressions.{Text}
 use Rattle.jt_ast.specs.Texts.{repeated}
 use Rattle.jt_chains.specs.Chain.{Sources, Namespace, Template, BlockBody, blocks_in}
@@ -10,6 +11,15 @@ use Rattle.jt_chains.specs.Rules.{lacks_macros, is_required, lacks_super}
 use Rattle.jt_inherit.specs.declared.error.ChainError.{ChainError}
 use Rattle.jt_inherit.specs.declared.error.ChainError.TheVariants as error
 use Rattle.std.specs.Str.{bytes_eq}
+
+-- The test is true, and the name has the property; or the test is false, and there is no name.
+abbrev pub IsNameOf : Bool → (Text → Type 0) → Option (Bor Text) → Type 0
+IsNameOf test P None = test ≡ false
+IsNameOf test P (Some x) = (test ≡ true) × P x.now
+
+-- How often the name is in the list.
+abbrev pub times : Text → List Text → ℕ
+times x names = length (filter (λ y. bytes_eq y x) names)
 
 -- The bodies of one block.
 abbrev pub named : Text → List BlockBody → List BlockBody

@@ -1,12 +1,15 @@
 -- The tags of wanted uses. Only private clauses cite this module.
-use Rattle.std.specs.Prelude.{◌≡◌, ◌+◌, ℕ, Bool, false, true, IsTrue, List, map, filter, drop, slice_get, Option, Some}
-use Rattle.std.specs.Prelude.{option_map, string_bytes}
-use Rattle.std.specs.List.{AllByRecursion}
+use Rattle.std.specs.Prelude.{◌≡◌, ◌+◌, ℕ, Bool, false, true, ◌&&◌, ◌||◌, IsTrue, List, [], ◌∷◌, length, map, filter}
+use Rattle.std.specs.Prelude.{drop, slice_get, Option, Some, option_map, string_bytes}
+use Rattle.std.specs.List.{AllByRecursion, list_all}
 use Rattle.jt_ast.specs.Expressions.{Text}
+use Rattle.jt_chains.specs.Chain.{Template}
+use Rattle.jt_chains.specs.Supers.{calls_super}
+use Rattle.jt_uses.specs.Uses as uses
 use Rattle.jt_uses.specs.Uses.{Use, Site}
 use Rattle.jt_uses.specs.UseView.{site_view}
 use Rattle.jt_inherit.specs.Findings.{asks, is_extends, is_include, is_import, binds_macro, is_block, defines}
-use Rattle.jt_inherit.specs.Findings.{calls_super_at, is_required}
+use Rattle.jt_inherit.specs.Findings.{all_uses, calls_super_at, is_required}
 use Rattle.jt_inherit.specs.declared.finding.TagPlace.{TagPlace}
 use Rattle.jt_inherit.specs.declared.tags.FoundTag.{FoundTag}
 use Rattle.jt_inherit.specs.declared.tags.Wanted.{Wanted}
@@ -44,6 +47,10 @@ with_name n ss = map (λ s. (n, s)) ss
 abbrev pub tags : (Use → Bool) → List (Text × Site) → List (Text × Site)
 tags test xs = filter (λ x. test x.1.made) xs
 
+-- The number of tags of the templates with such a use.
+abbrev pub tag_count : (Use → Bool) → List Template → ℕ
+tag_count test ts = length (tags test (all_uses ts))
+
 -- The place of the tag at a number.
 abbrev pub place_in : ℕ → List (Text × Site) → Option (Text × ℕ)
 place_in k xs = option_map place_of (slice_get xs k)
@@ -59,3 +66,13 @@ pub record IsLastCall (blocks : List (Text × Site)) (tag : Text × Site) (line 
   pub there : slice_get blocks number ≡ Some tag
   pub calls : calls_super_at line tag.1.made ≡ true
   pub last : AllByRecursion (λ s. IsTrue (is_required s.1.made)) (drop (number + 1) blocks)
+
+-- The use is a block with a tag in its body that calls `super()`.
+abbrev pub has_call : Use → Bool
+has_call (uses.declares_block x scoped required body) = calls_super body
+has_call u = false
+
+-- One of the blocks calls `super()`, and each further one, if any, is required.
+abbrev pub lacks_call : List (Text × Site) → Bool
+lacks_call [] = false
+lacks_call (tag ∷ rest) = (has_call tag.1.made && list_all (λ s. is_required s.1.made) rest) || lacks_call rest

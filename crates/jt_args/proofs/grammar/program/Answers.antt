@@ -1,6 +1,6 @@
 use Rattle.std.proofs.Common.{codes, rules, true, arith}
 use Rattle.clap.specs.Words.{App, new_app, with_subcommand}
-use Rattle.jt_args.specs.Line.{check_app, compile_app, explain_app, render_app, run_app, show_app, turns_app}
+use Rattle.jt_args.specs.Line.{check_app, compile_app, explain_app, needs_app, render_app, run_app, show_app, turns_app}
 use Rattle.jt_args.specs.Line.{upgrade_app}
 use Rattle.jt_args.proofs.grammar.program.Goals as goal
 
@@ -16,11 +16,14 @@ bare = let a = new_app (codes "jt") in record a {
 abbrev with_all : App → App
 with_all a =
     with_subcommand (with_subcommand (with_subcommand (with_subcommand (with_subcommand
-    (with_subcommand (with_subcommand (with_subcommand a compile_app.top) explain_app.top) check_app.top) show_app.top)
+    (with_subcommand (with_subcommand (with_subcommand (with_subcommand a compile_app.top) explain_app.top)
+    check_app.top)
+    show_app.top)
     run_app.top)
     render_app.top)
     turns_app.top)
-    upgrade_app.top
+    upgrade_app.top)
+    needs_app.top
 
 pub returns : goal.returns
 returns c = search (arith, rules)

@@ -1,15 +1,23 @@
 use Rattle.std.proofs.Common.{◌≡◌, Some, codes, refl, rules, subst, arith}
 use Rattle.std.proofs.lemmas.Result.{IfErr-weaker}
 use Rattle.clap.specs.Words.{found_of, rows_of, subcommand_rows_of}
-use Rattle.jt_args.specs.Line.{ArePaired, HasNumbers, HasSwitches}
+use Rattle.jt_args.specs.Line.{ArePaired, HasNumbers, HasReport, HasSwitches}
 use Rattle.jt_args.proofs.Found.{usage_weaker}
 use Rattle.jt_args.proofs.Pairing.{at_rows, no_name, no_other}
 use Rattle.jt_args.proofs.line.asked.Goals as goal
 use Rattle.jt_args.proofs.line.asked.Goals.{in_default-via-in-Some+in_default, in_default-via-in_default}
 
-pub run_job-requires : goal.run_job-requires
-run_job-requires c =
+pub run_job-requires-clause-numbers : goal.run_job-requires-clause-numbers
+run_job-requires-clause-numbers c =
     at_rows HasNumbers (subcommand_rows_of c.args.matches.now) _ c.in-Some-run-default.ensures.rows c.requires.numbers
+
+pub run_job-requires-clause-report : goal.run_job-requires-clause-report
+run_job-requires-clause-report c =
+    at_rows HasReport (subcommand_rows_of c.args.matches.now) _ c.in-Some-run-default.ensures.rows c.requires.report
+
+pub render_job-requires-clause-report : goal.render_job-requires-clause-report
+render_job-requires-clause-report c =
+    at_rows HasReport (subcommand_rows_of c.args.matches.now) _ c.in-Some-render-default.ensures.rows c.requires.report
 
 pub render_job-requires-clause-switches : goal.render_job-requires-clause-switches
 render_job-requires-clause-switches c =
@@ -20,6 +28,11 @@ pub render_job-requires-clause-numbers : goal.render_job-requires-clause-numbers
 render_job-requires-clause-numbers c =
     at_rows HasNumbers (subcommand_rows_of c.args.matches.now) _ c.in-Some-render-default.ensures.rows
     c.requires.numbers
+
+pub needs_job-requires : goal.needs_job-requires
+needs_job-requires c =
+    at_rows HasSwitches (subcommand_rows_of c.args.matches.now) _ c.in-Some-needs-default.ensures.rows
+    c.requires.switches
 
 pub turns_job-requires-clause-numbers : goal.turns_job-requires-clause-numbers
 turns_job-requires-clause-numbers c =
@@ -34,3 +47,6 @@ returns-in-Some-turns-default-clause-err c =
 
 pub unreachable-unreachable : goal.unreachable-unreachable
 unreachable-unreachable c = search (arith, rules, no_other, no_name)
+
+pub unreachable-requires : goal.unreachable-requires
+unreachable-requires c = search (arith, rules, no_other, no_name)

@@ -25,6 +25,7 @@ asked-requires c =
       numbers = all.0;
       switches = all.1;
       slice = all.2;
+      report = all.3;
     }
 
 pub returns-in-Ok-try_get_matches_from-clause-taken : goal.returns-in-Ok-try_get_matches_from-clause-taken

@@ -1,4 +1,4 @@
-use Rattle.std.proofs.Common.{inl, inr, refl, rules}
+use Rattle.std.proofs.Common.{inr, refl, rules}
 use Rattle.jt_codegen.proofs.Findings.{alone_found}
 use Rattle.jt_codegen.proofs.explaining.chain_finding.Goals as goal
 
@@ -6,7 +6,7 @@ pub returns-in-Some : goal.returns-in-Some
 returns-in-Some g c = record {
   some = search rules;
   states = refl;
-  placed = inr (inl (record { about = c.in-Some.subject; is = refl; says = rw c.in-Some.is at c.requires }));
+  placed = inr (record { about = c.in-Some.subject; is = refl; says = rw c.in-Some.is at c.requires });
 }
 
 pub returns-in-None : goal.returns-in-None

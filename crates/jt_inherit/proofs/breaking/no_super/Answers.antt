@@ -1,7 +1,16 @@
 use Rattle.jt_inherit.proofs.Vocabulary as words
-use words.{ℕ, refl, sym, ap, ◌∙◌, Text, templates_at, tag_view}
+use words.{ℕ, refl, sym, ap, ◌∙◌, Text, templates_at, tag_view, both_ways}
 use Rattle.jt_chains.specs.View.{its_templates}
+use Rattle.jt_inherit.proofs.BlocksOfUses.{lacking_tagged}
 use Rattle.jt_inherit.proofs.breaking.no_super.Goals as goal
+
+pub returns-in_default : goal.returns-in_default
+returns-in_default c =
+    let whole = c.args.facts.now.chain.now in
+    let ts = templates_at (its_templates whole) c.args.indices.now in
+    let none = c.in_default.ensures in
+    let some = lacking_tagged c.args.name.now whole.autoescape ts _ c.in_ok-named.ensures c.requires.lacking in
+    absurd (both_ways _ none some)
 
 pub returns : goal.returns
 returns c =

@@ -1,31 +1,47 @@
 use Rattle.jt_inherit.proofs.Vocabulary as words
-use words.{◌≡◌, ℕ, refl, sym, ap, ◌∙◌, Some, option_copied, blocks_named, slice_get, Text, tag_view}
-use words.{templates_at, slice_get-map, option_map}
+use words.{◌≡◌, ◌<◌, ℕ, true, refl, ap, arith, subst, List, Some, length, length-map, slice_get, Text, Site, tag_view}
+use words.{tags_view, templates_at, map_at, slice_get_within}
 use Rattle.jt_chains.specs.View.{its_templates}
+use Rattle.jt_inherit.specs.Findings.{is_required}
+use Rattle.jt_inherit.proofs.BlocksOfUses.{required_tagged}
 use Rattle.jt_inherit.proofs.breaking.not_given.Goals as goal
+
+pub index-nearest-requires : goal.index-nearest-requires
+index-nearest-requires c =
+    let whole = c.args.facts.now.chain.now in
+    let ts = templates_at (its_templates whole) c.args.indices.now in
+    let items = c.in_ok-named.named.items in
+    let first =
+    required_tagged c.args.name.now whole.autoescape ts (tags_view items) c.in_ok-named.ensures c.requires.required in
+    let some : 0 < length (tags_view items) = slice_get_within (tags_view items) 0 first.0 first.1 in
+    omega (arith, some, length-map items tag_view)
 
 pub returns : goal.returns
 returns c =
-    let ts = templates_at (its_templates c.args.facts.now.chain.now) c.args.indices.now in
-    let x = c.args.name.now in
-    let nearest = c.in-Some.nearest.now in
-    let found : slice_get c.in_ok-named.named.items 0 ≡ Some nearest =
-    sym (rw c.deref.ensures.value) ∙ sym c.first.ensures.value
-    ∙ ap option_copied c.in-Some.is in
-    let there : slice_get (blocks_named x ts) 0 ≡ Some (tag_view nearest) =
-    sym (rw c.in_ok-named.ensures)
-    ∙ slice_get-map tag_view _ 0 ∙ ap (option_map tag_view) found in
+    let whole = c.args.facts.now.chain.now in
+    let ts = templates_at (its_templates whole) c.args.indices.now in
+    let items = c.in_ok-named.named.items in
+    let nearest = c.index-nearest.result.now in
+    let first =
+    required_tagged c.args.name.now whole.autoescape ts (tags_view items) c.in_ok-named.ensures c.requires.required in
+    let some : 0 < length (tags_view items) = slice_get_within (tags_view items) 0 first.0 first.1 in
+    let lt : 0 < length items = omega (arith, some, length-map items tag_view) in
+    let there : slice_get (tags_view items) 0 ≡ Some (tag_view nearest) =
+    map_at tag_view items 0 nearest lt c.index-nearest.ensures in
+    let found : slice_get (tags_view items) 0 ≡ Some first.0 = first.1 in
+    let same : first.0 ≡ tag_view nearest = cc in
     let at = c.in_ok-place.ensures in (
       refl,
       (
         refl,
         rw c.in_ok-name.ensures.ok (record {
           tag = tag_view nearest;
-          nearest = there;
+          nearest =
+              subst (λ (l : List (Text × Site)). slice_get l 0 ≡ Some (tag_view nearest)) c.in_ok-named.ensures there;
           required = (
             ap (λ (q : Text × ℕ). q.0) at,
             ap (λ (q : Text × ℕ). q.1) at,
-            sym c.is_required.ensures ∙ c.if-not-is_required.false,
+            subst (λ (y : Text × Site). is_required y.1.made ≡ true) same first.2,
           );
         }),
       ),

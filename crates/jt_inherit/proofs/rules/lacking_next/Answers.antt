@@ -1,6 +1,7 @@
 use Rattle.jt_inherit.proofs.Vocabulary.{◌≡◌, ◌-◌, not, sym, ap, ◌∙◌, arith, rules, drop, subst, blocks_view, is_some}
-use Rattle.jt_inherit.proofs.Vocabulary.{both_ways, bytes_eq}
-use Rattle.jt_inherit.proofs.BodyRules.{HaveNext, all_next, given_goes, given_put, given_kept, next_found, next_goes}
+use Rattle.jt_inherit.proofs.Vocabulary.{both_ways, bytes_eq, false}
+use Rattle.jt_inherit.proofs.BodyRules.{HaveNext, all_next, has_given, given_goes, given_put, given_kept, next_found}
+use Rattle.jt_inherit.proofs.BodyRules.{next_goes, next_lacks}
 use Rattle.jt_names.specs.Names.{value_in}
 use goal.{else-is_none-via-then-is_none+else-calls_super, else-is_none-via-else-is_none}
 use Rattle.jt_inherit.proofs.rules.lacking_next.Goals as goal
@@ -12,10 +13,13 @@ returns-then-calls_super c =
     let x = c.index-blocks-left.result in
     let lt = c.loop-left-test.true in
     let within = l.invariant.within in
-    sym (next_found ts c.args.blocks.now l.left _ x (omega arith) c.index-blocks-left.is (omega arith)
-    (sym (l.invariant.noted ts x.name.now) ∙ ap is_some (sym c.index_of.ensures) ∙ c.is_none.ensures
-    ∙ ap not c.if-is_none.true)
-    (sym c.calls_super.ensures ∙ c.if-calls_super.true))
+    let none : has_given x.name.now (blocks_view ts (drop l.left c.args.blocks.now)) ≡ false =
+    sym (l.invariant.noted ts x.name.now) ∙ ap is_some (sym c.index_of.ensures) ∙ c.is_none.ensures
+    ∙ ap not c.if-is_none.true in
+    let calls = sym c.calls_super.ensures ∙ c.if-calls_super.true in (
+      next_found ts c.args.blocks.now l.left _ x (omega arith) c.index-blocks-left.is (omega arith) none calls,
+      next_lacks ts c.args.blocks.now l.left _ x (omega arith) c.index-blocks-left.is (omega arith) none calls,
+    )
 
 pub loop-left-preserved-in-Continue-1 : goal.loop-left-preserved-in-Continue-1
 loop-left-preserved-in-Continue-1 c =
@@ -67,5 +71,5 @@ returns c =
     let l = c.loop-left in
     let le = c.loop-left-test.false in
     let none : l.left ≡ 0 = omega arith in
-    sym (all_next (blocks_view ts c.args.blocks.now)
-    (subst (λ k. HaveNext (blocks_view ts (drop k c.args.blocks.now))) none (l.invariant.next ts)))
+    all_next (blocks_view ts c.args.blocks.now)
+    (subst (λ k. HaveNext (blocks_view ts (drop k c.args.blocks.now))) none (l.invariant.next ts))

@@ -1,5 +1,7 @@
-use Rattle.jt_inherit.proofs.Vocabulary.{[], get_or, sym, ◌∙◌, get_or_default, Bor, Text, not-true, not-false}
-use Rattle.jt_inherit.proofs.BodyRules.{repeat_found, repeat_goes, index_is, index_not}
+use Rattle.jt_inherit.proofs.Vocabulary.{[], get_or, sym, ◌∙◌, get_or_default, Bor, Text, not-true, not-false, ◌≡◌}
+use Rattle.jt_inherit.proofs.Vocabulary.{Some, texts}
+use Rattle.jt_names.specs.Names.{first_of}
+use Rattle.jt_inherit.proofs.BodyRules.{repeat_counted, repeat_found, repeat_goes, index_is, index_not}
 use Rattle.jt_inherit.proofs.rules.repeated.Goals as goal
 
 pub returns-then-ne : goal.returns-then-ne
@@ -8,9 +10,12 @@ returns-then-ne c =
     let i = c.loop-index.index in
     let none : Bor Text = record { ref_ptr = (0, 0); now = [] } in
     let x = get_or xs i none in
-    sym (repeat_found xs i x c.loop-index-test.true (get_or_default xs i none x c.loop-index-test.true)
-    (λ (r : Bor Text). r.now)
-    (λ e. index_not _ _ (not-true _ (sym c.if-ne.ensures)) (c.index_of.ensures ∙ c.in_ok-firsts.ensures x.now ∙ e)))
+    let at = get_or_default xs i none x c.loop-index-test.true in
+    let again : first_of x.now 0 (texts xs) ≡ Some i → ⊥ =
+    λ e. index_not _ _ (not-true _ (sym c.if-ne.ensures)) (c.index_of.ensures ∙ c.in_ok-firsts.ensures x.now ∙ e) in (
+      repeat_found xs i x c.loop-index-test.true at (λ (r : Bor Text). r.now) again,
+      repeat_counted xs i x c.loop-index-test.true at (λ (r : Bor Text). r.now) again,
+    )
 
 pub loop-index-preserved : goal.loop-index-preserved
 loop-index-preserved c =

@@ -1,4 +1,5 @@
-use Rattle.jt_inherit.proofs.Vocabulary.{◌≡◌, map, sym, ap, ◌∙◌, rules, tests, texts, repeated, map-map}
+use Rattle.jt_inherit.proofs.Vocabulary.{◌≡◌, ◌≤◌, map, subst, sym, ap, ◌∙◌, rules, tests, texts, repeated, map-map}
+use Rattle.jt_inherit.proofs.Vocabulary.{IsNameOf, times}
 use Rattle.jt_inherit.proofs.Vocabulary.{YieldsList-from_map_by, YieldsList-from_slice, block_view}
 use Rattle.std.proofs.lemmas.Iterator.Consumers.{map_from_collect}
 use Rattle.std.proofs.lemmas.Result.{IfOk-weaker}
@@ -12,6 +13,6 @@ returns c =
     (YieldsList-from_slice c.args.blocks.now cc) c.map.ensures.closure (λ x r q k. search (rules, tests))) in
     let seen = (rw c.in_ok-names.was at told) in
     IfOk-weaker c.repeated.result _ _
-    (λ found e ts. e ∙ ap repeated (ap texts c.deref.ensures.value ∙ seen
-    ∙ sym (map-map (λ b. b.name) (block_view ts) c.args.blocks.now)))
+    (λ found e ts. subst (λ l. IsNameOf (repeated l) (λ x. 2 ≤ times x l) found)
+    (ap texts c.deref.ensures.value ∙ seen ∙ sym (map-map (λ b. b.name) (block_view ts) c.args.blocks.now)) e)
     c.repeated.ensures

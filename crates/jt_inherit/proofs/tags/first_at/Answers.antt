@@ -1,4 +1,4 @@
-use Rattle.jt_inherit.proofs.Vocabulary.{ap, sym, ◌∙◌, all_uses, place_in, tags, test_of}
+use Rattle.jt_inherit.proofs.Vocabulary.{sym, ◌∙◌, test_of}
 use Rattle.jt_inherit.proofs.PathsGrow.{templates_past}
 use Rattle.jt_inherit.proofs.TagPlaces.{first_found, first_turn, none_found}
 use Rattle.jt_inherit.proofs.tags.first_at.Goals as goal

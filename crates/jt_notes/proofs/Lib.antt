@@ -1,0 +1,2 @@
+pub mod BlocksUp
+pub mod EntryNames

@@ -1,0 +1,8 @@
+use Rattle.std.proofs.Common.{◌≡◌, map, take, Some}
+use Rattle.jt_scan.specs.View.{token_view}
+use Rattle.jt_syntax.specs.internal.States as spec
+use Rattle.jt_syntax.proofs.wanted.wanted_behind.Given as goal
+
+abbrev pub invariant-loop-token : goal.invariant-loop-token
+invariant-loop-token l =
+    spec.walk (take l.token-index (map token_view l.tokens)) (Some spec.start) ≡ Some (spec.view l.prefix)
