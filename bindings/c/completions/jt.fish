@@ -1,13 +1,13 @@
 # Completes the commands, options and files of jt in fish.
 complete -c jt -f
 
-# Prints the words after the command that are neither options nor their numbers.
+# Prints the words after the command that are neither options nor their values.
 function __jt_words
     set -l skip 0
     for word in (commandline -opc)[3..]
         if test $skip = 1
             set skip 0
-        else if contains -- $word --fuel --depth --output --size --nesting --slice
+        else if contains -- $word --fuel --depth --output --size --nesting --slice --with --set --set-json
             set skip 1
         else if not string match -q -- '-*' $word
             echo $word
@@ -52,6 +52,10 @@ complete -c jt -n $budget -x -l depth -d 'How many calls may be open'
 complete -c jt -n $budget -x -l output -d 'How many bytes may be written'
 complete -c jt -n $budget -x -l size -d 'How large a value may be'
 complete -c jt -n $budget -x -l nesting -d 'How deep a value may nest'
+set -l context '__fish_seen_subcommand_from explain run render'
+complete -c jt -n $context -r -F -l with -d 'Read a further file of JSON'
+complete -c jt -n $context -x -l set -d 'Set a name to a text'
+complete -c jt -n $context -x -l set-json -d 'Set a name to a value in JSON'
 complete -c jt -n '__fish_seen_subcommand_from run render' -l report -d 'Write what the run used of its budget to standard error'
 complete -c jt -n '__fish_seen_subcommand_from turns' -x -l slice -d 'How many instructions a turn has'
 

@@ -5,3 +5,4 @@ mod Found
 mod Passed
 mod Texts
 mod Pairing
+mod Settings

@@ -1,6 +1,7 @@
--- The words of `turns`, in pairs.
+-- The words that the grammar does not check: those of `turns`, in pairs, and settings.
 use Rattle.std.proofs.Common.{◌≡◌, ◌≢◌, ◌∙◌, ◌+◌, ◌*◌, ◌<◌, ◌%◌, ℕ, List, [], ◌∷◌, ◌++◌, length, Option, Some, None, ap}
-use Rattle.std.proofs.Common.{refl, sym, subst, codes, arith, take, suc, get_or, append_assoc, Bor, option_map, rules}
+use Rattle.std.proofs.Common.{refl, sym, subst, codes, arith, take, suc, get_or, append_assoc, Bor}
+use Rattle.std.proofs.Common.{option_map, rules, inl, inr}
 use Rattle.std.proofs.Math.Seq.{take-suc}
 use Rattle.std.proofs.lemmas.List.{length-map, map-append}
 use Rattle.clap.specs.Walk.{texts}
@@ -11,7 +12,9 @@ use Rattle.jt_args.specs.declared.jobs.Job.{Job}
 use Rattle.jt_scan.specs.declared.Options.{Options}
 use Rattle.jt_args.specs.declared.jobs.Pair.{Pair}
 use Rattle.jt_args.specs.declared.jobs.UseReport.{UseReport}
-use Rattle.jt_args.specs.Line.{ArePaired, ComeInPairs, IsAsked, IsCommand, IsKnown, words_of_pairs}
+use Rattle.jt_args.specs.declared.jobs.Command.TheVariants as command
+use Rattle.jt_args.specs.Line.{AreInOrder, ArePaired, AreSet, ComeInPairs, HasContext, IsAsked, IsCommand, IsKnown}
+use Rattle.jt_args.specs.Line.{words_of_pairs}
 use Rattle.std.specs.Prelude.{IfSome, slice_get, string_bytes, unwrap_or}
 
 -- The number of words is twice the number of pairs.
@@ -40,9 +43,51 @@ paired : (name : Text) (rows : List Row) (k : Command) (o : Options) (b : Budget
 paired name rows k o b n r a7 = search (arith, rules, of_other, apart, come)
 
 -- The words of a job that is requested come in pairs.
-pub paired_of : (found : Option (Text × List Row)) (j : Job) → IsAsked found j → ArePaired found
+paired_of : (found : Option (Text × List Row)) (j : Job) → IsAsked found j → ArePaired found
 paired_of None j h = absurd h
 paired_of (Some c) j h = paired c.0 c.1 j.command j.options j.budget j.slice j.report h
+
+-- ---- settings
+
+first : Text → ℕ
+first s = unwrap_or (slice_get s 0) 0
+
+-- A command without a context has a name with another first letter.
+no_context : (name s : Text) → name ≡ s → first s ≢ 101 → first s ≢ 114 → HasContext name → ⊥
+unfolding first
+no_context name s e no_explain no_run (inl h) = no_explain (ap first (sym e ∙ h))
+no_context name s e no_explain no_run (inr (inl h)) = no_run (ap first (sym e ∙ h))
+no_context name s e no_explain no_run (inr (inr h)) = no_run (ap first (sym e ∙ h))
+
+are_set : (name : Text) (rows : List Row) (k : Command) (o : Options) (b : Budget) (n : ℕ) (r : UseReport)
+    → IsCommand name rows k o b n r
+    → AreSet (Some (name, rows))
+unfolding first
+are_set name rows (command.Explain dir template context) o b n r is has = is.3.0
+are_set name rows (command.Run image context) o b n r is has = is.2.0
+are_set name rows (command.Render dir template context) o b n r is has = is.3.0
+are_set name rows (command.Compile dir template out) o b n r is has =
+    absurd (no_context name _ is.0 (λ (h : 99 ≡ 101). omega (arith, h)) (λ (h : 99 ≡ 114). omega (arith, h)) has)
+are_set name rows (command.Check image) o b n r is has =
+    absurd (no_context name _ is.0 (λ (h : 99 ≡ 101). omega (arith, h)) (λ (h : 99 ≡ 114). omega (arith, h)) has)
+are_set name rows (command.Show image) o b n r is has =
+    absurd (no_context name _ is.0 (λ (h : 115 ≡ 101). omega (arith, h)) (λ (h : 115 ≡ 114). omega (arith, h)) has)
+are_set name rows (command.Turns sessions) o b n r is has =
+    absurd (no_context name _ is.0 (λ (h : 116 ≡ 101). omega (arith, h)) (λ (h : 116 ≡ 114). omega (arith, h)) has)
+are_set name rows (command.Upgrade image out) o b n r is has =
+    absurd (no_context name _ is.0 (λ (h : 117 ≡ 101). omega (arith, h)) (λ (h : 117 ≡ 114). omega (arith, h)) has)
+are_set name rows (command.Needs dir template) o b n r is has =
+    absurd (no_context name _ is.0 (λ (h : 110 ≡ 101). omega (arith, h)) (λ (h : 110 ≡ 114). omega (arith, h)) has)
+
+set_of : (found : Option (Text × List Row)) (j : Job) → IsAsked found j → AreSet found
+set_of None j h = absurd h
+set_of (Some c) j h = are_set c.0 c.1 j.command j.options j.budget j.slice j.report h
+
+-- The words of a job that is requested are in order.
+pub ordered_of : (found : Option (Text × List Row)) (j : Job) → IsAsked found j → AreInOrder found
+ordered_of found j h = (paired_of found j h, set_of found j h)
+
+-- ---- pairs
 
 -- The words of one more pair are appended.
 pub one_pair_more : (ps : List Pair) (p : Pair)

@@ -1,10 +1,11 @@
 -- The lines that the program takes, and the job of each. How a line is read is clap's written rule:
 -- `fault_of` lists its faults, and `subcommand_of` is its command with the rows that were found.
-use Rattle.std.specs.Prelude.{◌≡◌, ◌≢◌, ◌<◌, ◌≤◌, ◌^◌, ◌%◌, ◌⊎◌, ℕ, length, ◌∷◌, Bool, true, false, not, List, []}
-use Rattle.std.specs.Prelude.{Option, Some, None, codes, pos, unwrap_or, option_map, IfSome, String}
-use Rattle.std.specs.declared.alloc.Global.{Global}
+use Rattle.std.specs.Prelude.{◌≡◌, ◌≢◌, ◌<◌, ◌≤◌, ◌^◌, ◌%◌, ◌⊎◌, ℕ, length, ◌∷◌, ◌++◌, Bool, true, false, not, List, []}
+use Rattle.std.specs.Prelude.{Option, Some, None, codes, map, pos, unwrap_or, option_map, IfSome}
+use Rattle.std.specs.List.{AllByRecursion}
 use Rattle.std.specs.String.{string_bytes}
 use Rattle.std.specs.Str.Parse.{IsNumeral, digits_value, without_leading_plus}
+use Rattle.clap.specs.Lexer.{name_and_value}
 use Rattle.clap.specs.Words.{App, Row, Rule, Text, all_of, first_of, new_app, new_rule, one_of, with_rule}
 use Rattle.clap.specs.Words.{with_subcommand, fault_of, subcommand_of}
 use Rattle.clap.specs.declared.builder.ArgAction.TheVariants.{Append, SetTrue}
@@ -14,6 +15,8 @@ use Rattle.jt_scan.specs.declared.Options.{Options}
 use Rattle.jt_budget.specs.declared.Budget.{Budget}
 use Rattle.jt_args.specs.declared.jobs.Command.{Command}
 use Rattle.jt_args.specs.declared.jobs.Command.TheVariants as command
+use Rattle.jt_args.specs.declared.jobs.ContextPart.{ContextPart}
+use Rattle.jt_args.specs.declared.jobs.ContextPart.TheVariants as part
 use Rattle.jt_args.specs.declared.jobs.Job.{Job}
 use Rattle.jt_args.specs.declared.jobs.Pair.{Pair}
 use Rattle.jt_args.specs.declared.jobs.UseReport.{UseReport}
@@ -26,6 +29,10 @@ use Rattle.jt_args.specs.declared.jobs.JobError.TheVariants as job_error
 -- An option with one value, which its parser must accept.
 abbrev pub option_rule : Text → ValueParser → Rule
 option_rule name p = record (new_rule name) { long = Some name; parser = Some p }
+
+-- An option with one value, any number of times.
+abbrev pub repeated_rule : Text → Rule
+repeated_rule name = record (new_rule name) { long = Some name; action = Some Append }
 
 -- An option without a value.
 abbrev pub flag_rule : Text → Rule
@@ -56,9 +63,11 @@ with_flags a = with_rule (with_rule (with_rule (with_rule (with_rule a
 abbrev pub with_report : App → App
 with_report a = with_rule a (flag_rule (codes "report"))
 
--- The word for a context, which may be left out.
-abbrev pub context_rule : Rule
-context_rule = new_rule (codes "CONTEXT")
+-- A command with a context: the word for its file, and the options for further files and for single names. Each
+-- may be left out.
+abbrev pub with_context : App → App
+with_context a = with_rule (with_rule (with_rule (with_rule a (new_rule (codes "CONTEXT")))
+    (repeated_rule (codes "with"))) (repeated_rule (codes "set"))) (repeated_rule (codes "set-json"))
 
 -- The command `compile DIR NAME OUT`.
 abbrev pub compile_app : App
@@ -67,8 +76,8 @@ compile_app = with_flags (with_rule (with_rule (with_rule (new_app (codes "compi
 
 -- The command `explain DIR NAME [CONTEXT]`.
 abbrev pub explain_app : App
-explain_app = with_budget (with_flags (with_rule (with_rule (with_rule (new_app (codes "explain"))
-    (word_rule (codes "DIR"))) (word_rule (codes "NAME"))) context_rule))
+explain_app = with_budget (with_flags (with_context (with_rule (with_rule (new_app (codes "explain"))
+    (word_rule (codes "DIR"))) (word_rule (codes "NAME")))))
 
 -- The command `check IMAGE`.
 abbrev pub check_app : App
@@ -82,13 +91,13 @@ show_app = with_rule (new_app (codes "show")) (word_rule (codes "IMAGE"))
 abbrev pub run_app : App
 run_app =
     with_report (with_budget
-    (with_rule (with_rule (new_app (codes "run")) (word_rule (codes "IMAGE"))) context_rule))
+    (with_context (with_rule (new_app (codes "run")) (word_rule (codes "IMAGE")))))
 
 -- The command `render DIR NAME [CONTEXT]`.
 abbrev pub render_app : App
 render_app =
-    with_report (with_budget (with_flags (with_rule (with_rule (with_rule (new_app (codes "render"))
-    (word_rule (codes "DIR"))) (word_rule (codes "NAME"))) context_rule)))
+    with_report (with_budget (with_flags (with_context (with_rule (with_rule (new_app (codes "render"))
+    (word_rule (codes "DIR"))) (word_rule (codes "NAME"))))))
 
 -- The words for images and contexts, in any number.
 abbrev pub pairs_rule : Rule
@@ -132,9 +141,13 @@ program_app = let a = new_app (codes "jt") in
 abbrev pub IsClear : List Text → Type 0
 IsClear words = fault_of program_app words ≡ []
 
+-- The words of an argument, in order.
+abbrev pub words_of : Text → List Row → List Text
+words_of name rows = unwrap_or (all_of name rows) []
+
 -- The words of `turns`.
 abbrev pub pair_words : List Row → List Text
-pair_words rows = unwrap_or (all_of (codes "PAIRS") rows) []
+pair_words = words_of (codes "PAIRS")
 
 -- The number of words is even and not 0.
 abbrev pub ComeInPairs : List Text → Type 0
@@ -145,9 +158,31 @@ abbrev pub ArePaired : Option (Text × List Row) → Type 0
 ArePaired None = Unit {0}
 ArePaired (Some c) = c.0 ≡ codes "turns" → ComeInPairs (pair_words c.1)
 
+-- The word is NAME=VALUE, split at its first `=`, and the name is not empty.
+abbrev pub IsSetting : Text → Type 0
+IsSetting word = (name value : Text) × (name_and_value word ≡ (name, Some value)) × (name ≢ [])
+
+-- Each word of `--set` and of `--set-json` is NAME=VALUE.
+abbrev pub AreSettings : List Row → Type 0
+AreSettings rows = AllByRecursion IsSetting (words_of (codes "set") rows)
+    × AllByRecursion IsSetting (words_of (codes "set-json") rows)
+
+-- The command has a context.
+abbrev pub HasContext : Text → Type 0
+HasContext name = (name ≡ codes "explain") ⊎ ((name ≡ codes "run") ⊎ (name ≡ codes "render"))
+
+-- The names of a context are set as they should be.
+abbrev pub AreSet : Option (Text × List Row) → Type 0
+AreSet None = Unit {0}
+AreSet (Some c) = HasContext c.0 → AreSettings c.1
+
+-- The words that the grammar does not check are in order.
+abbrev pub AreInOrder : Option (Text × List Row) → Type 0
+AreInOrder found = ArePaired found × AreSet found
+
 -- The program takes the line.
 abbrev pub Takes : List Text → Type 0
-Takes words = IsClear words × ArePaired (subcommand_of program_app words)
+Takes words = IsClear words × AreInOrder (subcommand_of program_app words)
 
 -- ---- the job of a line that the program takes
 
@@ -224,9 +259,27 @@ IsReport rows report = IsFlag (one_of (codes "report") rows) (is_written report)
 abbrev pub word_of : Text → List Row → Text
 word_of name rows = unwrap_or (first_of name rows) []
 
--- The path of the context's file is the word for it, or `None` if the line lacks this word.
-abbrev pub IsContext : List Row → Option (String Global) → Type 0
-IsContext rows file = option_map string_bytes file ≡ first_of (codes "CONTEXT") rows
+-- A part of a context as the line spells it: its option, and a path, or a name and a value.
+abbrev pub spelled : ContextPart → Text × (Text × Option Text)
+spelled (part.File path) = (codes "with", (string_bytes path, None))
+spelled (part.Text name text) = (codes "set", (string_bytes name, Some (string_bytes text)))
+spelled (part.Json name json) = (codes "set-json", (string_bytes name, Some (string_bytes json)))
+
+-- The files that these words name.
+abbrev pub files_in : List Text → List (Text × (Text × Option Text))
+files_in = map (λ word. (codes "with", (word, None)))
+
+-- The settings that these words of an option spell.
+abbrev pub settings_in : Text → List Text → List (Text × (Text × Option Text))
+settings_in option = map (λ word. (option, name_and_value word))
+
+-- The parts of the context: CONTEXT, the files of `--with`, the settings of `--set`, and those of `--set-json`,
+-- each in the order of the line.
+abbrev pub IsContext : List Row → List ContextPart → Type 0
+IsContext rows parts = AreSettings rows
+    × (map spelled parts ≡ files_in (words_of (codes "CONTEXT") rows) ++ (files_in (words_of (codes "with") rows)
+    ++ (settings_in (codes "set") (words_of (codes "set") rows)
+    ++ settings_in (codes "set-json") (words_of (codes "set-json") rows))))
 
 -- The words of the pairs, in order.
 abbrev pub words_of_pairs : List Pair → List Text
@@ -243,7 +296,7 @@ IsCommand name rows (command.Compile dir template out) options budget slice repo
     × (report ≡ use_report.Omitted)
 IsCommand name rows (command.Explain dir template context) options budget slice report = (name ≡ codes "explain")
     × (string_bytes dir ≡ word_of (codes "DIR") rows)
-    × (string_bytes template ≡ word_of (codes "NAME") rows) × IsContext rows context
+    × (string_bytes template ≡ word_of (codes "NAME") rows) × IsContext rows context.items
     × IsOptions rows options × IsBudget rows budget × (slice ≡ usual_slice)
     × (report ≡ use_report.Omitted)
 IsCommand name rows (command.Check image) options budget slice report = (name ≡ codes "check")
@@ -255,12 +308,12 @@ IsCommand name rows (command.Show image) options budget slice report = (name ≡
     × (options ≡ usual_options) × (budget ≡ usual_budget) × (slice ≡ usual_slice)
     × (report ≡ use_report.Omitted)
 IsCommand name rows (command.Run image context) options budget slice report = (name ≡ codes "run")
-    × (string_bytes image ≡ word_of (codes "IMAGE") rows) × IsContext rows context
+    × (string_bytes image ≡ word_of (codes "IMAGE") rows) × IsContext rows context.items
     × (options ≡ usual_options) × IsBudget rows budget × (slice ≡ usual_slice)
     × IsReport rows report
 IsCommand name rows (command.Render dir template context) options budget slice report = (name ≡ codes "render")
     × (string_bytes dir ≡ word_of (codes "DIR") rows)
-    × (string_bytes template ≡ word_of (codes "NAME") rows) × IsContext rows context
+    × (string_bytes template ≡ word_of (codes "NAME") rows) × IsContext rows context.items
     × IsOptions rows options × IsBudget rows budget × (slice ≡ usual_slice)
     × IsReport rows report
 IsCommand name rows (command.Turns sessions) options budget slice report = (name ≡ codes "turns")

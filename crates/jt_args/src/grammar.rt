@@ -33,6 +33,8 @@ enum ArgumentKind {
     Words,
     /// An option with one number as its value.
     Number(ValueParser<'static>),
+    /// An option with one text as its value, any number of times.
+    Values,
     /// An option without a value.
     Flag,
 }
@@ -79,6 +81,24 @@ const CONTEXT: Argument = Argument {
     name: "CONTEXT",
     kind: ArgumentKind::OptionalWord,
     help: "A file of JSON: the values of names",
+};
+
+const WITH: Argument = Argument {
+    name: "with",
+    kind: ArgumentKind::Values,
+    help: "A further file of JSON, whose values replace those before it",
+};
+
+const SET: Argument = Argument {
+    name: "set",
+    kind: ArgumentKind::Values,
+    help: "NAME=VALUE: sets a name to a text, after all files",
+};
+
+const SET_JSON: Argument = Argument {
+    name: "set-json",
+    kind: ArgumentKind::Values,
+    help: "NAME=JSON: sets a name to a value in JSON, after each --set",
 };
 
 const PAIRS: Argument = Argument {
@@ -181,6 +201,9 @@ const COMMANDS: [CommandForm; 9] = [
             DIR,
             NAME,
             CONTEXT,
+            WITH,
+            SET,
+            SET_JSON,
             TRIM_BLOCKS,
             LSTRIP_BLOCKS,
             KEEP_TRAILING_NEWLINE,
@@ -206,7 +229,9 @@ const COMMANDS: [CommandForm; 9] = [
     CommandForm {
         name: "run",
         about: "Runs an image and prints its text",
-        arguments: &[IMAGE, CONTEXT, FUEL, DEPTH, OUTPUT, SIZE, NESTING, REPORT],
+        arguments: &[
+            IMAGE, CONTEXT, WITH, SET, SET_JSON, FUEL, DEPTH, OUTPUT, SIZE, NESTING, REPORT,
+        ],
     },
     CommandForm {
         name: "render",
@@ -215,6 +240,9 @@ const COMMANDS: [CommandForm; 9] = [
             DIR,
             NAME,
             CONTEXT,
+            WITH,
+            SET,
+            SET_JSON,
             TRIM_BLOCKS,
             LSTRIP_BLOCKS,
             KEEP_TRAILING_NEWLINE,
@@ -302,6 +330,7 @@ fn arg<'a>(alloc: Global, wanted: &Argument) -> Arg<'a>
         ArgumentKind::OptionalWord => made,
         ArgumentKind::Words => made.action(ArgAction::Append),
         ArgumentKind::Number(range) => made.long(wanted.name).value_parser(range),
+        ArgumentKind::Values => made.long(wanted.name).action(ArgAction::Append),
         ArgumentKind::Flag => made.long(wanted.name).action(ArgAction::SetTrue),
     }
 }

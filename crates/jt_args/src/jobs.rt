@@ -2,11 +2,11 @@
 
 use jt_budget::Budget;
 use jt_scan::Options;
-use std::alloc::AllocError;
+use std::alloc::{AllocError, AllocFailed};
 use thiserror::Error;
 
-/// A command of the program with its words. `context` is the path of a context file; `None` is the
-/// empty context, except for `Explain`, which then runs nothing.
+/// A command of the program with its words. `context` has the parts of a context in order. Without
+/// parts it is the empty context, except for `Explain`, which then runs nothing.
 #[derive(Debug, Drop, PartialEq, Eq)]
 pub enum Command {
     /// Compiles the template `name` from the files of the directory `dir` into an image at `out`.
@@ -16,11 +16,11 @@ pub enum Command {
         out: String,
     },
     /// Explains why the template `name` from the files of the directory `dir` does not compile, or,
-    /// if `context` is not `None`, why it has no text for that context.
+    /// if `context` has parts, why it has no text for that context.
     Explain {
         dir: String,
         name: String,
-        context: Option<String>,
+        context: Vec<ContextPart>,
     },
     /// Verifies the image at a path.
     Check {
@@ -33,14 +33,14 @@ pub enum Command {
     /// Runs the image at a path and prints its text.
     Run {
         image: String,
-        context: Option<String>,
+        context: Vec<ContextPart>,
     },
     /// Compiles the template `name` from the files of the directory `dir`, runs it and prints its
     /// text.
     Render {
         dir: String,
         name: String,
-        context: Option<String>,
+        context: Vec<ContextPart>,
     },
     /// Runs images in turns, each for its own context.
     Turns {
@@ -57,6 +57,17 @@ pub enum Command {
         dir: String,
         name: String,
     },
+}
+
+/// A part of a context. It sets names to values, over those of the parts before it.
+#[derive(Debug, Drop, PartialEq, Eq)]
+pub enum ContextPart {
+    /// The members of the JSON object in the file at a path: CONTEXT, or a file of `--with`.
+    File(String),
+    /// A name with a text, of `--set`.
+    Text { name: String, text: String },
+    /// A name with the value of a text of JSON, of `--set-json`.
+    Json { name: String, json: String },
 }
 
 /// The paths of an image and of a context file.
@@ -107,6 +118,17 @@ impl From<AllocError> for JobError {
     ghost from_gives = { λ _ e. e ≡ NoMemory };
 
     fn from(_error: AllocError) -> JobError {
+        JobError::NoMemory
+    }
+}
+
+impl<T: Drop> From<AllocFailed<T>> for JobError {
+    ghost use Rattle.std.specs.Prelude.{◌≡◌};
+    ghost use Rattle.jt_args.specs.declared.jobs.JobError.TheVariants.{NoMemory};
+
+    ghost from_gives = { λ _ e. e ≡ NoMemory };
+
+    fn from(_refused: AllocFailed<T>) -> JobError {
         JobError::NoMemory
     }
 }

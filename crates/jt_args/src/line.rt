@@ -1,8 +1,8 @@
 //! Parses a command line into a job.
 
-ghost use Rattle.std.specs.Prelude.{◌≡◌, ◌≢◌, ◌%◌, length, codes, option_map, string_bytes, IfOk};
+ghost use Rattle.std.specs.Prelude.{◌≡◌, ◌≢◌, ◌%◌, length, codes, option_map, IfOk};
 ghost use Rattle.std.specs.Prelude.{IfErr, IfSome, OnOk};
-ghost use Rattle.clap.specs.Words.{first_of, found_of, rows_of, one_of, kind_of};
+ghost use Rattle.clap.specs.Words.{found_of, rows_of, one_of, kind_of};
 ghost use Rattle.clap.specs.Words.{subcommand_of, subcommand_rows_of};
 ghost use Rattle.clap.specs.Walk.{texts};
 ghost use Rattle.jt_args.specs.Line.{Takes, IsAsked, IsKnown, IsBudget, IsOptions, IsGiven};
@@ -10,11 +10,13 @@ ghost use Rattle.jt_args.specs.Line.{HasText, IsSlice, IsFlag, IfUsage};
 ghost use Rattle.jt_args.specs.Line.{program_app, word_of};
 ghost use Rattle.jt_args.specs.Line.{HasNumbers, HasReport, HasSlice, HasSwitches, IsNumber};
 ghost use Rattle.jt_args.specs.Line.{IsReport, IsSwitch};
-ghost use Rattle.jt_args.specs.Line.{ComeInPairs, ArePaired, pair_words, words_of_pairs};
+ghost use Rattle.jt_args.specs.Line.{AreInOrder, AreSettings, ComeInPairs, pair_words};
+ghost use Rattle.jt_args.specs.Line.{words_of_pairs};
 
 use crate::grammar::program;
 use crate::jobs;
 use crate::jobs::{DEFAULT, Job, JobError, Pair, SLICE, UseReport};
+use crate::parts::context;
 use clap::ArgMatches;
 use clap::error::ErrorKind;
 use jt_budget::Budget;
@@ -45,7 +47,7 @@ pub fn job(alloc: Global, words: &[&str]) -> Result<Job, JobError>
 }
 
 /// Builds the job of a line that the grammar accepts. Refuses `turns` unless its words come in
-/// pairs.
+/// pairs, and a setting without a name.
 fn asked(alloc: Global, matches: &ArgMatches<'_>) -> Result<Job, JobError>
     requires known { IsKnown (option_map (λ p. p.0) (subcommand_rows_of matches.now)) }
     requires numbers { IfSome (subcommand_rows_of matches.now) (λ p. HasNumbers p.1) }
@@ -53,7 +55,7 @@ fn asked(alloc: Global, matches: &ArgMatches<'_>) -> Result<Job, JobError>
     requires slice { IfSome (subcommand_rows_of matches.now) (λ p. HasSlice p.1) }
     requires report { IfSome (subcommand_rows_of matches.now) (λ p. HasReport p.1) }
     ensures ok { IfOk result (IsAsked (subcommand_rows_of matches.now)) }
-    ensures err { IfErr result (IfUsage (¬ ArePaired (subcommand_rows_of matches.now))) }
+    ensures err { IfErr result (IfUsage (¬ AreInOrder (subcommand_rows_of matches.now))) }
     ensures told { IfErr result HasText }
 {
     match matches.subcommand() {
@@ -91,7 +93,8 @@ fn explain_job(alloc: Global, found: &ArgMatches<'_>) -> Result<Job, JobError>
     requires numbers { HasNumbers (rows_of (found_of found.now)) }
     requires switches { HasSwitches (rows_of (found_of found.now)) }
     ensures ok { IfOk result (IsAsked (Some (codes "explain", rows_of (found_of found.now)))) }
-    ensures err { IfErr result (λ e. e ≡ JobError.NoMemory) }
+    ensures err { IfErr result (IfUsage (¬ AreSettings (rows_of (found_of found.now)))) }
+    ensures told { IfErr result HasText }
 {
     let dir = String::from_str(alloc, word(found, "DIR"))?;
     let name = String::from_str(alloc, word(found, "NAME"))?;
@@ -137,7 +140,8 @@ fn run_job(alloc: Global, found: &ArgMatches<'_>) -> Result<Job, JobError>
     requires numbers { HasNumbers (rows_of (found_of found.now)) }
     requires report { HasReport (rows_of (found_of found.now)) }
     ensures ok { IfOk result (IsAsked (Some (codes "run", rows_of (found_of found.now)))) }
-    ensures err { IfErr result (λ e. e ≡ JobError.NoMemory) }
+    ensures err { IfErr result (IfUsage (¬ AreSettings (rows_of (found_of found.now)))) }
+    ensures told { IfErr result HasText }
 {
     let image = String::from_str(alloc, word(found, "IMAGE"))?;
     let context = context(alloc, found)?;
@@ -155,7 +159,8 @@ fn render_job(alloc: Global, found: &ArgMatches<'_>) -> Result<Job, JobError>
     requires switches { HasSwitches (rows_of (found_of found.now)) }
     requires report { HasReport (rows_of (found_of found.now)) }
     ensures ok { IfOk result (IsAsked (Some (codes "render", rows_of (found_of found.now)))) }
-    ensures err { IfErr result (λ e. e ≡ JobError.NoMemory) }
+    ensures err { IfErr result (IfUsage (¬ AreSettings (rows_of (found_of found.now)))) }
+    ensures told { IfErr result HasText }
 {
     let dir = String::from_str(alloc, word(found, "DIR"))?;
     let name = String::from_str(alloc, word(found, "NAME"))?;
@@ -249,17 +254,6 @@ fn word<'a>(found: &ArgMatches<'a>, name: &str) -> &'a str
     ensures { result.now ≡ word_of name.now (rows_of (found_of found.now)) }
 {
     found.get_str(name).unwrap_or("")
-}
-
-/// Returns the path of the context file, if the line has one.
-fn context(alloc: Global, found: &ArgMatches<'_>) -> Result<Option<String>, AllocError>
-    ensures { IfOk result (λ file.
-        option_map string_bytes file ≡ first_of (codes "CONTEXT") (rows_of (found_of found.now))) }
-{
-    match found.get_str("CONTEXT") {
-        Some(file) => Ok(Some(String::from_str(alloc, file)?)),
-        None => Ok(None),
-    }
 }
 
 /// Returns the options under which templates are read: the defaults, changed by the flags of the

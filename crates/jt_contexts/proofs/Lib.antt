@@ -1,1 +1,2 @@
 mod MemberValues
+mod Merges

@@ -40,7 +40,7 @@ pub fn context_from_json(alloc: Global, text: &str) -> Result<Context, ContextEr
 }
 
 /// Converts an error of the JSON parser: `NoMemory` if memory ran out, else `NotJson`.
-fn unread(error: &serde_json::Error) -> ContextError
+pub(crate) fn unread(error: &serde_json::Error) -> ContextError
     ensures memory { IsMemory error.now → result ≡ ContextError.NoMemory }
     ensures text { ¬ IsMemory error.now → result ≡ ContextError.NotJson }
 {
@@ -72,7 +72,7 @@ fn context_of(
 
 /// Converts a JSON value.
 #[cycle(values)]
-fn value_of(alloc: Global, json: serde_json::Value) -> Result<Value, ContextError>
+pub(crate) fn value_of(alloc: Global, json: serde_json::Value) -> Result<Value, ContextError>
     ensures ok { IfOk result (λ v. value_of_json (json_view json) ≡ Some (view v)) }
     ensures err { IfErr result (Flaw (json_view json)) }
 {

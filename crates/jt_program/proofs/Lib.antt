@@ -3,3 +3,4 @@ mod SourceCollection
 mod SinkLines
 mod PairStarts
 mod Uses
+mod Parts

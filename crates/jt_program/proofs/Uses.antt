@@ -13,6 +13,7 @@ use Rattle.jt_machine.specs.declared.Used.{Used}
 use Rattle.jt_args.specs.Line.{IsAsked, IsCommand, IsFlag, IsReporting}
 use Rattle.jt_args.specs.declared.Command.{Command}
 use Rattle.jt_args.specs.declared.Command.TheVariants as command
+use Rattle.jt_args.specs.declared.ContextPart.{ContextPart}
 use Rattle.jt_args.specs.declared.Job.{Job}
 use Rattle.jt_args.specs.declared.UseReport.{UseReport}
 use Rattle.jt_args.specs.declared.UseReport.TheVariants as use_report
@@ -25,7 +26,7 @@ use Rattle.jt_inherit.specs.Chains.{SourceTexts}
 use Rattle.jt_program.specs.declared.messages.Failure.{Failure}
 use Rattle.jt_program.specs.declared.messages.Failure.TheVariants as failure
 use Rattle.jt_program.specs.declared.messages.Status.TheVariants as status
-use Rattle.jt_program.specs.Commands.{CommandUses, Ending, IsOfContext, IsUnread, IsUse, JobUses, RenderUses, Renders}
+use Rattle.jt_program.specs.Commands.{CommandUses, Ending, IsUnread, IsUse, JobUses, RenderUses, Renders}
 use Rattle.jt_program.specs.Commands.{RunUses, Runs, UsesIf, of_run, run_end}
 use Rattle.jt_program.specs.Ending.{code_of, status_of}
 use Rattle.jt_program.specs.Files.{Known}
@@ -50,9 +51,9 @@ module _ (files : Known) where
   command_unused : (k : Command) (o : Options) (b : Budget) (e : Ending) (used : Option Used) → run_end e ≡ None
       → CommandUses files k o b e used → used ≡ None
   command_unused (command.Run image context) o b e used none h =
-      unused_end (RunUses files _ context b) (run_end e) used none h
+      unused_end (RunUses files _ context.items b) (run_end e) used none h
   command_unused (command.Render dir name context) o b e used none h =
-      unused_end (RenderUses files _ _ o context b) (run_end e) used none h
+      unused_end (RenderUses files _ _ o context.items b) (run_end e) used none h
   command_unused k o b e used none h = h
 
   pub job_unused : (r : UseReport) (k : Command) (o : Options) (b : Budget) (e : Ending) (used : Option Used)
@@ -170,13 +171,6 @@ unread_other files asks context (failure.Call (call_error.Context x)) h =
     (((λ e. absurd (cc)), (λ e. absurd (cc))), refl)
 unread_other files asks context e h = absurd h
 
--- Inputs that are missing are neither the usage nor that of standard output, and no run has ended.
-pub lacks_other : (files : Known) (asks : Text → Type 0) (L : Type 0) (context : Option (String Global)) (e : Failure)
-    → IsUnread files asks None (Err e) ⊎ (L × IsUnread files (IsOfContext context) context (Err e))
-    → IsOther e × (run_end (Err e) ≡ None)
-lacks_other files asks L context e (inl h) = unread_other files asks None e h
-lacks_other files asks L context e (inr h) = unread_other files (IsOfContext context) context e h.1
-
 -- Bytes that are no image come to that error, which is neither the usage nor that of standard output.
 pub no_image_other : (bytes : List ℕ) (pairs : Pairs) (b : Budget) (e : CallError) → IsNoImage bytes e
     → ComesTo bytes pairs b (Err e) × IsOther (failure.Call e) × (run_end (Err (failure.Call e)) ≡ None)
@@ -199,7 +193,7 @@ uncompiled_other sources name options pairs b e h = absurd h
 
 module _ (files : Known) where
   -- The run of an image that was counted is its run.
-  pub runs_so : (image : Text) (context : Option (String Global)) (b : Budget) (o : RunOutcome) (u : Used)
+  pub runs_so : (image : Text) (context : List ContextPart) (b : Budget) (o : RunOutcome) (u : Used)
       → RunUses files image context b o u
       → Runs files image context b (of_run o)
   runs_so image context b (outcome.Text t) u h = record {
@@ -225,7 +219,7 @@ module _ (files : Known) where
   }
 
   -- The rendering of a template that was counted is its rendering.
-  pub renders_so : (dir name : Text) (options : Options) (context : Option (String Global)) (b : Budget)
+  pub renders_so : (dir name : Text) (options : Options) (context : List ContextPart) (b : Budget)
       (o : RunOutcome) (u : Used)
       → RenderUses files dir name options context b o u → Renders files dir name options context b (of_run o)
   renders_so dir name options context b (outcome.Text t) u h = record {

@@ -6,6 +6,8 @@ use Rattle.std.specs.declared.alloc.Global.{Global}
 use Rattle.clap.specs.Words.{Row, Text as Word}
 use Rattle.jt_scan.specs.declared.Options.{Options}
 use Rattle.jt_value.specs.Pairs.{Pairs}
+use Rattle.jt_value.specs.Tree as tree
+use Rattle.jt_value.specs.Tree.{Tree}
 use Rattle.jt_inherit.specs.Chains.{SourceTexts}
 use Rattle.jt_ast.specs.Expressions.{Text}
 use Rattle.jt_value.specs.ContextView.{pairs_of}
@@ -20,12 +22,16 @@ use Rattle.jt_machine.specs.declared.Outcome.{Outcome as RunOutcome}
 use Rattle.jt_machine.specs.declared.Outcome.TheVariants as outcome
 use Rattle.jt_machine.specs.declared.Used.{Used}
 use Rattle.jt_contexts.specs.Json.{IsContext}
+use Rattle.jt_contexts.specs.Merging.{merged}
+use Rattle.jt_contexts.specs.Single.{IsNoValue, IsValue}
 use Rattle.jt_sessions.specs.Turns.{World, max_sessions}
 use Rattle.jt_sessions.specs.declared.HostError.TheVariants as host_error
 use Rattle.jt_host.specs.Rendering.{IsRefused as IsUncompiled}
 use Rattle.jt_args.specs.Line.{IsAsked, word_of}
 use Rattle.jt_args.specs.declared.Command.{Command}
 use Rattle.jt_args.specs.declared.Command.TheVariants as command
+use Rattle.jt_args.specs.declared.ContextPart.{ContextPart}
+use Rattle.jt_args.specs.declared.ContextPart.TheVariants as part
 use Rattle.jt_args.specs.declared.Job.{Job}
 use Rattle.jt_args.specs.declared.Pair.{Pair}
 use Rattle.jt_args.specs.declared.UseReport.{UseReport}
@@ -43,6 +49,7 @@ use Rattle.jt_host.specs.declared.CallError.{CallError}
 use Rattle.jt_host.specs.declared.CallError.TheVariants as call_error
 use Rattle.jt_program.specs.declared.messages.Failure.{Failure}
 use Rattle.jt_program.specs.declared.messages.Failure.TheVariants as failure
+use Rattle.jt_program.specs.Ending.{no_memory}
 use Rattle.jt_program.specs.Files.{Known, IsLibrary, IsOfDirectory}
 
 -- The end of a command: the text that it prints, or a failure.
@@ -72,6 +79,11 @@ run_end (Err (failure.Call (call_error.Fault f q))) = Some (outcome.Fault f q)
 run_end (Err (failure.Call (call_error.Spent s))) = Some (outcome.Spent s)
 run_end (Err e) = None
 
+-- The JSON spells no value, and the failure states why, or memory ran out.
+abbrev pub SpellsNone : List ℕ → Failure → Type 0
+SpellsNone json (failure.Call (call_error.Context e)) = IsNoValue json e
+SpellsNone json e = e ≡ no_memory
+
 -- ---- the files that are read
 
 -- The path is `asked`.
@@ -84,11 +96,26 @@ IsOfContext None path = ⊥
 IsOfContext (Some asked) path = path ≡ string_bytes asked
 
 module _ (files : Known) where
-  -- The context that a file spells, or the empty context if no file is named.
-  abbrev pub IsContextAt : Option (String Global) → Pairs → Type 0
-  IsContextAt None x = x ≡ []
-  IsContextAt (Some path) x =
-      (bytes : List ℕ) × files.holds (string_bytes path) bytes × IsContext bytes x
+  -- The context that a file spells.
+  abbrev pub IsContextAt : String Global → Pairs → Type 0
+  IsContextAt path x = (bytes : List ℕ) × files.holds (string_bytes path) bytes × IsContext bytes x
+
+  -- The names and values of a part of a context.
+  abbrev pub IsPart : ContextPart → Pairs → Type 0
+  IsPart (part.File path) x = IsContextAt path x
+  IsPart (part.Text name text) x = x ≡ (string_bytes name, tree.text (string_bytes text)) ∷ []
+  IsPart (part.Json name json) x =
+      (value : Tree) × IsValue (string_bytes json) value × (x ≡ (string_bytes name, value) ∷ [])
+
+  abbrev pub AreParts : List ContextPart → List Pairs → Type 0
+  AreParts [] [] = Unit {0}
+  AreParts [] (x ∷ xs) = ⊥
+  AreParts (p ∷ ps) [] = ⊥
+  AreParts (p ∷ ps) (x ∷ xs) = IsPart p x × AreParts ps xs
+
+  -- The context of parts: each part over those before it. So the last value of a name counts.
+  abbrev pub IsContextOf : List ContextPart → Pairs → Type 0
+  IsContextOf parts x = (xs : List Pairs) × AreParts parts xs × (x ≡ merged xs)
 
   -- The file of a context spells none, and the error states why.
   abbrev pub HasNoContext : Option (String Global) → CallError → Type 0
@@ -108,17 +135,40 @@ module _ (files : Known) where
   IsUnread asks context (Err (failure.Call call_error.NoMemory)) = Unit {0}
   IsUnread asks context (Err e) = ⊥
 
+  -- A part of a context is missing, and the failure states why: its file fails or spells no context, its
+  -- JSON spells no value, or memory ran out.
+  abbrev pub IsNoPart : ContextPart → Failure → Type 0
+  IsNoPart (part.File path) e = IsUnread (IsOfContext (Some path)) (Some path) (Err e)
+  IsNoPart (part.Text name text) e = e ≡ no_memory
+  IsNoPart (part.Json name json) e = SpellsNone (string_bytes json) e
+
+  -- The first part of a context that is missing. The parts before it are there, and those after it do not
+  -- matter.
+  pub record LacksPart (parts : List ContextPart) (e : Failure) : Type 0 where
+    pub before : List ContextPart
+    pub missing : ContextPart
+    pub after : List ContextPart
+    pub whole : parts ≡ before ++ missing ∷ after
+    pub pairs : List Pairs
+    pub given : AreParts before pairs
+    pub why : IsNoPart missing e
+
+  -- A context is missing, and the failure is that of its first part that is missing, or memory ran out.
+  abbrev pub LacksContext : List ContextPart → Ending → Type 0
+  LacksContext parts (Ok text) = ⊥
+  LacksContext parts (Err e) = (e ≡ no_memory) ⊎ LacksPart parts e
+
   -- The inputs of a command over an image are missing, and the failure is the first of these: the file
-  -- of the image fails; the file of the context fails or spells no context.
-  abbrev pub LacksImage : Text → Option (String Global) → Ending → Type 0
+  -- of the image fails; a part of the context is missing.
+  abbrev pub LacksImage : Text → List ContextPart → Ending → Type 0
   LacksImage image context e = IsUnread (IsPath image) None e
-      ⊎ (((bytes : List ℕ) × files.holds image bytes) × IsUnread (IsOfContext context) context e)
+      ⊎ (((bytes : List ℕ) × files.holds image bytes) × LacksContext context e)
 
   -- The inputs of a command over templates are missing, and the failure is the first of these: the
-  -- directory or one of its files fails; the file of the context fails or spells no context.
-  abbrev pub LacksTemplates : Text → Option (String Global) → Ending → Type 0
+  -- directory or one of its files fails; a part of the context is missing.
+  abbrev pub LacksTemplates : Text → List ContextPart → Ending → Type 0
   LacksTemplates dir context e = IsUnread (IsOfDirectory files dir) None e
-      ⊎ (((sources : SourceTexts) × IsLibrary files dir sources) × IsUnread (IsOfContext context) context e)
+      ⊎ (((sources : SourceTexts) × IsLibrary files dir sources) × LacksContext context e)
 
 -- ---- the commands
 
@@ -181,39 +231,39 @@ module _ (files : Known) where
     pub shown : IsShown bytes e
 
   -- The image at a path is run for a context.
-  pub record Runs (image : Text) (context : Option (String Global)) (b : Budget) (e : Ending) :
+  pub record Runs (image : Text) (context : List ContextPart) (b : Budget) (e : Ending) :
       Type 0 where
     pub bytes : List ℕ
     pub held : files.holds image bytes
     pub pairs : Pairs
-    pub given : IsContextAt files context pairs
+    pub given : IsContextOf files context pairs
     pub comes : EndsAs (ComesTo bytes pairs b) e
 
   -- The template of a name, from the files of a directory, is rendered for a context.
-  pub record Renders (dir name : Text) (options : Options) (context : Option (String Global))
+  pub record Renders (dir name : Text) (options : Options) (context : List ContextPart)
       (b : Budget) (e : Ending) : Type 0 where
     pub sources : SourceTexts
     pub library : IsLibrary files dir sources
     pub pairs : Pairs
-    pub given : IsContextAt files context pairs
+    pub given : IsContextOf files context pairs
     pub comes : EndsAs (RendersTo sources name options pairs b) e
 
   -- The run of the image at a path for a context ends with this outcome, and uses this.
-  pub record RunUses (image : Text) (context : Option (String Global)) (b : Budget) (o : RunOutcome) (u : Used) :
+  pub record RunUses (image : Text) (context : List ContextPart) (b : Budget) (o : RunOutcome) (u : Used) :
       Type 0 where
     pub bytes : List ℕ
     pub held : files.holds image bytes
     pub pairs : Pairs
-    pub given : IsContextAt files context pairs
+    pub given : IsContextOf files context pairs
     pub uses : ImageUses bytes pairs b o u
 
   -- The run of the template of a name for a context ends with this outcome, and uses this.
-  pub record RenderUses (dir name : Text) (options : Options) (context : Option (String Global))
+  pub record RenderUses (dir name : Text) (options : Options) (context : List ContextPart)
       (b : Budget) (o : RunOutcome) (u : Used) : Type 0 where
     pub sources : SourceTexts
     pub library : IsLibrary files dir sources
     pub pairs : Pairs
-    pub given : IsContextAt files context pairs
+    pub given : IsContextOf files context pairs
     pub uses : TemplateUses sources name options pairs b o u
 
   -- The template of a name, from the files of a directory, is explained to a person: whether it
@@ -231,18 +281,18 @@ module _ (files : Known) where
 
   -- The template is explained as `Diagnoses` states, and if it compiles how its run for a context
   -- ends.
-  pub record DiagnosesRun (dir name : Text) (options : Options) (context : Option (String Global))
+  pub record DiagnosesRun (dir name : Text) (options : Options) (context : List ContextPart)
       (b : Budget) (e : Ending) : Type 0 where
     pub sources : SourceTexts
     pub library : IsLibrary files dir sources
     pub pairs : Pairs
-    pub given : IsContextAt files context pairs
+    pub given : IsContextOf files context pairs
     pub explained : EndsAs (ExplainsRunTo sources name options pairs b) e
 
   -- Only with a context is there a run to explain.
-  abbrev pub DiagnosesFor : Text → Text → Options → Option (String Global) → Budget → Ending → Type 0
-  DiagnosesFor dir name options None b e = Diagnoses dir name options e
-  DiagnosesFor dir name options (Some context) b e = DiagnosesRun dir name options (Some context) b e
+  abbrev pub DiagnosesFor : Text → Text → Options → List ContextPart → Budget → Ending → Type 0
+  DiagnosesFor dir name options [] b e = Diagnoses dir name options e
+  DiagnosesFor dir name options (p ∷ ps) b e = DiagnosesRun dir name options (p ∷ ps) b e
 
 module _ (files : Known) where
   -- The code of the image of a pair, and the context of its other file.
@@ -250,7 +300,7 @@ module _ (files : Known) where
     pub bytes : List ℕ
     pub held : files.holds (string_bytes p.image) bytes
     pub image : IsImageOf bytes s.code
-    pub given : IsContextAt files (Some p.context) (pairs_of s.context)
+    pub given : IsContextAt files p.context (pairs_of s.context)
 
   abbrev pub AreStarts : List Pair → List Start → Type 0
   AreStarts [] [] = Unit {0}
@@ -265,7 +315,7 @@ module _ (files : Known) where
       ⊎ ((bytes : List ℕ)
       × files.holds (string_bytes p.image) bytes
       × (IsUnread files (IsOfContext (Some p.context)) (Some p.context) (Err e)
-      ⊎ ((pairs : Pairs) × IsContextAt files (Some p.context) pairs × FailsAs (IsNoImage bytes) e)))
+      ⊎ ((pairs : Pairs) × IsContextAt files p.context pairs × FailsAs (IsNoImage bytes) e)))
 
   -- The pair after `before` is not opened: the host is full although the pair is good, or the pair
   -- opens no session.
@@ -314,9 +364,9 @@ module _ (files : Known) where
   -- What a command reports as used. Only `run` and `render` have a run to report.
   abbrev pub CommandUses : Command → Options → Budget → Ending → Option Used → Type 0
   CommandUses (command.Run image context) o b e used =
-      IsUse (RunUses files (string_bytes image) context b) (run_end e) used
+      IsUse (RunUses files (string_bytes image) context.items b) (run_end e) used
   CommandUses (command.Render dir name context) o b e used =
-      IsUse (RenderUses files (string_bytes dir) (string_bytes name) o context b) (run_end e) used
+      IsUse (RenderUses files (string_bytes dir) (string_bytes name) o context.items b) (run_end e) used
   CommandUses c o b e used = used ≡ None
 
   -- Nothing is reported as used unless the line asks for it.
@@ -351,18 +401,18 @@ module _ (files after : Known) where
       × (IsUnread files (IsOfDirectory files (string_bytes dir)) None e
       ⊎ Compiles (string_bytes dir) (string_bytes name) (string_bytes out) o e)
   CommandEnds (command.Explain dir name context) o b e =
-      LacksTemplates files (string_bytes dir) context e
-      ⊎ DiagnosesFor files (string_bytes dir) (string_bytes name) o context b e
+      LacksTemplates files (string_bytes dir) context.items e
+      ⊎ DiagnosesFor files (string_bytes dir) (string_bytes name) o context.items b e
   CommandEnds (command.Check image) o b e =
       IsUnread files (IsPath (string_bytes image)) None e ⊎ Checks files (string_bytes image) e
   CommandEnds (command.Show image) o b e =
       IsUnread files (IsPath (string_bytes image)) None e ⊎ Shows files (string_bytes image) e
   CommandEnds (command.Run image context) o b e =
-      LacksImage files (string_bytes image) context e
-      ⊎ Runs files (string_bytes image) context b e
+      LacksImage files (string_bytes image) context.items e
+      ⊎ Runs files (string_bytes image) context.items b e
   CommandEnds (command.Render dir name context) o b e =
-      LacksTemplates files (string_bytes dir) context e
-      ⊎ Renders files (string_bytes dir) (string_bytes name) o context b e
+      LacksTemplates files (string_bytes dir) context.items e
+      ⊎ Renders files (string_bytes dir) (string_bytes name) o context.items b e
   CommandEnds (command.Turns sessions) o b e = TakesTurns files sessions.items b e
   CommandEnds (command.Upgrade image out) o b e = ChangesOnly (string_bytes out)
       × (IsUnread files (IsPath (string_bytes image)) None e

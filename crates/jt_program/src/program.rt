@@ -11,7 +11,7 @@ ghost use Rattle.jt_args.specs.Line.{Takes, Asks, AsksReport, program_app};
 ghost use Rattle.jt_program.specs.Commands.{Answers, ChangesOnly, Checks, Compiles, Diagnoses};
 ghost use Rattle.jt_program.specs.Commands.{DiagnosesFor, DiagnosesRun};
 ghost use Rattle.jt_program.specs.Commands.{Ending, FindsNeeds, HasImage, HasUpgrade};
-ghost use Rattle.jt_program.specs.Commands.{IsContextAt, IsOfContext};
+ghost use Rattle.jt_program.specs.Commands.{IsContextOf};
 ghost use Rattle.jt_program.specs.Commands.{IsPath, IsUnread, IsWriting, JobEnds, LacksImage};
 ghost use Rattle.jt_program.specs.Commands.{LacksTemplates, LineEnds};
 ghost use Rattle.jt_program.specs.Commands.{LineWrites, Renders, Runs, Shows, Upgrades};
@@ -23,15 +23,16 @@ ghost use Rattle.jt_program.specs.Reports.{Explains, Prints, ReportsUsage, TookU
 ghost use Rattle.jt_program.specs.Reports.{memory_line};
 ghost use Rattle.jt_host.specs.Templates.{source_of};
 
+use crate::contexts::context_of_parts;
 use crate::files::{FileError, Files};
 use crate::messages::{Failure, Status, no_file};
 use crate::reports::{report, report_run, report_use};
 use crate::turns::run_turns;
-use jt_args::{Command, Job, UseReport, job};
+use jt_args::{Command, ContextPart, Job, UseReport, job};
 use jt_budget::Budget;
 use jt_host::{
-    EntryTemplate, MeteredOutcome, Templates, context_of, counts_of, explained, explained_run,
-    image_of, listed_needs, meter_image, meter_template, render_text, run_image, upgraded,
+    EntryTemplate, MeteredOutcome, Templates, counts_of, explained, explained_run, image_of,
+    listed_needs, meter_image, meter_template, render_text, run_image, upgraded,
 };
 use jt_machine::{Sink, Used, put_all};
 use jt_scan::Options;
@@ -344,18 +345,19 @@ fn explain_in<F: Files>(
     alloc: Global,
     files: &mut F,
     entry: EntryFile,
-    context: Option<String>,
+    context: Vec<ContextPart>,
     budget: Budget,
 ) -> Result<String, Failure>
     ensures ends { LacksTemplates (F.known (F.contents files.old)) (string_bytes entry.dir)
-        context result
+        context.items result
         ⊎ DiagnosesFor (F.known (F.contents files.old)) (string_bytes entry.dir)
-        (string_bytes entry.name) entry.options context budget result }
+        (string_bytes entry.name) entry.options context.items budget result }
     ensures kept { F.contents files.new ≡ F.contents files.old }
 {
-    match context {
-        Some(context) => explain_run_in(alloc, files, entry, context, budget),
-        None => explain_entry_in(alloc, files, entry),
+    if context.is_empty() {
+        explain_entry_in(alloc, files, entry)
+    } else {
+        explain_run_in(alloc, files, entry, context, budget)
     }
 }
 
@@ -367,7 +369,7 @@ fn explain_entry_in<F: Files>(
     entry: EntryFile,
 ) -> Result<String, Failure>
     ensures ends { LacksTemplates (F.known (F.contents files.old)) (string_bytes entry.dir)
-        None result
+        [] result
         ⊎ Diagnoses (F.known (F.contents files.old)) (string_bytes entry.dir)
         (string_bytes entry.name) entry.options result }
     ensures kept { F.contents files.new ≡ F.contents files.old }
@@ -389,17 +391,17 @@ fn explain_run_in<F: Files>(
     alloc: Global,
     files: &mut F,
     entry: EntryFile,
-    context: String,
+    context: Vec<ContextPart>,
     budget: Budget,
 ) -> Result<String, Failure>
     ensures ends { LacksTemplates (F.known (F.contents files.old)) (string_bytes entry.dir)
-        (Some context) result
+        context.items result
         ⊎ DiagnosesRun (F.known (F.contents files.old)) (string_bytes entry.dir)
-        (string_bytes entry.name) entry.options (Some context) budget result }
+        (string_bytes entry.name) entry.options context.items budget result }
     ensures kept { F.contents files.new ≡ F.contents files.old }
 {
     let EntryFile { dir, name, options } = entry;
-    let (templates, context) = inputs_in(alloc, files, dir, Some(context))?;
+    let (templates, context) = inputs_in(alloc, files, dir, context)?;
     let entry = EntryTemplate {
         name: name.as_str(),
         templates: &templates,
@@ -484,15 +486,17 @@ fn run_at<F: Files>(
     alloc: Global,
     files: &mut F,
     image: String,
-    context: Option<String>,
+    context: Vec<ContextPart>,
     budget: Budget,
 ) -> Result<String, Failure>
-    ensures ends { LacksImage (F.known (F.contents files.old)) (string_bytes image) context result
-        ⊎ Runs (F.known (F.contents files.old)) (string_bytes image) context budget result }
+    ensures ends { LacksImage (F.known (F.contents files.old)) (string_bytes image) context.items
+        result
+        ⊎ Runs (F.known (F.contents files.old)) (string_bytes image) context.items budget
+        result }
     ensures kept { F.contents files.new ≡ F.contents files.old }
 {
     let encoded = bytes_at(files, image)?;
-    let context = context_at(alloc, files, context)?;
+    let context = context_of_parts(alloc, files, context)?;
     let text = run_image(alloc, &encoded, &context, budget);
     // The context is not dropped: the process ends soon and frees all its memory.
     std::mem::forget(context);
@@ -505,21 +509,22 @@ fn run_metered_at<F: Files>(
     alloc: Global,
     files: &mut F,
     image: String,
-    context: Option<String>,
+    context: Vec<ContextPart>,
     budget: Budget,
 ) -> Result<MeteredOutcome, Failure>
     ensures uses { IfOk result
-        (λ m. RunUses (F.known (F.contents files.old)) (string_bytes image) context budget m.outcome
-        m.used) }
+        (λ m. RunUses (F.known (F.contents files.old)) (string_bytes image) context.items budget
+        m.outcome m.used) }
     ensures err { IfErr result
-        (λ e. LacksImage (F.known (F.contents files.old)) (string_bytes image) context (Err e)
-        ⊎ Runs (F.known (F.contents files.old)) (string_bytes image) context budget (Err e)) }
+        (λ e. LacksImage (F.known (F.contents files.old)) (string_bytes image) context.items (Err e)
+        ⊎ Runs (F.known (F.contents files.old)) (string_bytes image) context.items budget
+        (Err e)) }
     ensures unended { IfErr result (λ e. run_end (Err e) ≡ None) }
     ensures other { IfErr result (λ e. (status_of e ≢ Status.Usage) × (e ≢ Failure.Output)) }
     ensures kept { F.contents files.new ≡ F.contents files.old }
 {
     let image = bytes_at(files, image)?;
-    let context = context_at(alloc, files, context)?;
+    let context = context_of_parts(alloc, files, context)?;
     let metered = meter_image(alloc, &image, &context, budget);
     // The context is not dropped, as in `run_at`.
     std::mem::forget(context);
@@ -532,17 +537,17 @@ fn render_metered_in<F: Files>(
     alloc: Global,
     files: &mut F,
     entry: EntryFile,
-    context: Option<String>,
+    context: Vec<ContextPart>,
     budget: Budget,
 ) -> Result<MeteredOutcome, Failure>
     ensures uses { IfOk result
         (λ m. RenderUses (F.known (F.contents files.old)) (string_bytes entry.dir)
-        (string_bytes entry.name) entry.options context budget m.outcome m.used) }
+        (string_bytes entry.name) entry.options context.items budget m.outcome m.used) }
     ensures err { IfErr result
-        (λ e. LacksTemplates (F.known (F.contents files.old)) (string_bytes entry.dir) context
+        (λ e. LacksTemplates (F.known (F.contents files.old)) (string_bytes entry.dir) context.items
         (Err e)
         ⊎ Renders (F.known (F.contents files.old)) (string_bytes entry.dir)
-        (string_bytes entry.name) entry.options context budget (Err e)) }
+        (string_bytes entry.name) entry.options context.items budget (Err e)) }
     ensures unended { IfErr result (λ e. run_end (Err e) ≡ None) }
     ensures other { IfErr result (λ e. (status_of e ≢ Status.Usage) × (e ≢ Failure.Output)) }
     ensures kept { F.contents files.new ≡ F.contents files.old }
@@ -566,13 +571,13 @@ fn render_in<F: Files>(
     alloc: Global,
     files: &mut F,
     entry: EntryFile,
-    context: Option<String>,
+    context: Vec<ContextPart>,
     budget: Budget,
 ) -> Result<String, Failure>
     ensures ends { LacksTemplates (F.known (F.contents files.old)) (string_bytes entry.dir)
-        context result
+        context.items result
         ⊎ Renders (F.known (F.contents files.old)) (string_bytes entry.dir)
-        (string_bytes entry.name) entry.options context budget result }
+        (string_bytes entry.name) entry.options context.items budget result }
     ensures kept { F.contents files.new ≡ F.contents files.old }
 {
     let EntryFile { dir, name, options } = entry;
@@ -588,46 +593,26 @@ fn render_in<F: Files>(
     Ok(text?)
 }
 
-/// Reads the templates directly in `dir`, and then the context in a file, as `context_at` does.
+/// Reads the templates directly in `dir`, and then the parts of the context, as `context_of_parts`
+/// does.
 fn inputs_in<F: Files>(
     alloc: Global,
     files: &mut F,
     dir: String,
-    context: Option<String>,
+    context: Vec<ContextPart>,
 ) -> Result<(Templates, Context), Failure>
     ensures library { IfOk result
         (λ r. IsLibrary (F.known (F.contents files.old)) (string_bytes dir) (source_of r.0)) }
     ensures given { IfOk result
-        (λ r. IsContextAt (F.known (F.contents files.old)) context (pairs_of r.1)) }
+        (λ r. IsContextOf (F.known (F.contents files.old)) context.items (pairs_of r.1)) }
     ensures err { IfErr result
-        (λ e. LacksTemplates (F.known (F.contents files.old)) (string_bytes dir) context (Err e)) }
+        (λ e. LacksTemplates (F.known (F.contents files.old)) (string_bytes dir) context.items
+        (Err e)) }
     ensures kept { F.contents files.new ≡ F.contents files.old }
 {
     let sources = templates_in(alloc, files, dir)?;
-    let values = context_at(alloc, files, context)?;
+    let values = context_of_parts(alloc, files, context)?;
     Ok((sources, values))
-}
-
-/// Reads the context in a file, or returns the empty context if no file is named.
-pub(crate) fn context_at<F: Files>(
-    alloc: Global,
-    files: &mut F,
-    path: Option<String>,
-) -> Result<Context, Failure>
-    ensures given { IfOk result
-        (λ context. IsContextAt (F.known (F.contents files.old)) path (pairs_of context)) }
-    // No file is read except that of the context.
-    ensures err { IfErr result
-        (λ e. IsUnread (F.known (F.contents files.old)) (IsOfContext path) path (Err e)) }
-    ensures kept { F.contents files.new ≡ F.contents files.old }
-{
-    match path {
-        Some(path) => {
-            let bytes = bytes_at(files, path)?;
-            Ok(context_of(alloc, &bytes)?)
-        }
-        None => Ok(Context::new(alloc)),
-    }
 }
 
 /// Returns the bytes of the file at `path`.

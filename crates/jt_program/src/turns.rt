@@ -4,9 +4,10 @@ ghost use Rattle.jt_args.specs.declared.Pair.{Pair as LinePair};
 ghost use Rattle.jt_turns.specs.Worlds.{world_of};
 ghost use Rattle.jt_program.specs.Commands.{AreOpen, IsNoStart, IsNotOpened, IsStart, TakesTurns};
 
+use crate::contexts::context_at;
 use crate::files::Files;
 use crate::messages::Failure;
-use crate::program::{bytes_at, context_at};
+use crate::program::bytes_at;
 use jt_args::Pair;
 use jt_budget::Budget;
 use jt_host::{CallError, verified_image};
@@ -65,7 +66,7 @@ fn start_at<F: Files>(alloc: Global, files: &mut F, pair: Pair) -> Result<Start,
 {
     let Pair { image, context } = pair;
     let bytes = bytes_at(files, image)?;
-    let context = context_at(alloc, files, Some(context))?;
+    let context = context_at(alloc, files, context)?;
     let code = verified_image(alloc, &bytes)?;
     Ok(Start { code, context })
 }

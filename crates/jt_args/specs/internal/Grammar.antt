@@ -8,7 +8,7 @@ use Rattle.jt_args.specs.declared.grammar.Argument.{Argument}
 use Rattle.jt_args.specs.declared.grammar.CommandForm.{CommandForm}
 use Rattle.jt_args.specs.declared.grammar.ArgumentKind.{ArgumentKind}
 use Rattle.jt_args.specs.declared.grammar.ArgumentKind.TheVariants as kind
-use Rattle.jt_args.specs.Line.{flag_rule, option_rule, word_rule}
+use Rattle.jt_args.specs.Line.{flag_rule, option_rule, repeated_rule, word_rule}
 
 -- If it is made, the command has this grammar, and no argument of it is also for its subcommands.
 abbrev pub IsApp : {E : Type 0} → Result Command E → App → Type 0
@@ -20,6 +20,7 @@ rule_of_kind kind.Word name = word_rule name
 rule_of_kind kind.OptionalWord name = new_rule name
 rule_of_kind kind.Words name = record (new_rule name) { action = Some Append }
 rule_of_kind (kind.Number range) name = option_rule name range
+rule_of_kind kind.Values name = repeated_rule name
 rule_of_kind kind.Flag name = flag_rule name
 
 abbrev pub rule_for : Argument → Rule

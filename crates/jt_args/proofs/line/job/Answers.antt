@@ -2,9 +2,9 @@ use Rattle.std.proofs.Common.{◌≡◌, ◌∙◌, ap, subst, sym, option_map, 
 use Rattle.clap.specs.Words.{App, app_of, fault_of, is_simple, is_simple_and_free, subcommand_of}
 use Rattle.clap.specs.Walk.{texts}
 use Rattle.std.proofs.lemmas.Result.{IfOk-weaker, IfErr-weaker}
-use Rattle.jt_args.specs.Line.{program_app, ArePaired, IsAsked, IsClear, IsKnown}
+use Rattle.jt_args.specs.Line.{program_app, AreInOrder, IsAsked, IsClear, IsKnown}
 use Rattle.jt_args.proofs.Found.{listed, usage_weaker}
-use Rattle.jt_args.proofs.Pairing.{paired_of}
+use Rattle.jt_args.proofs.Pairing.{ordered_of}
 use Rattle.jt_args.proofs.Checked.{HaveAll, checked}
 use Rattle.jt_args.proofs.Commands.{is_clear, is_read, named}
 use Rattle.jt_args.proofs.line.job.Goals as goal
@@ -36,7 +36,7 @@ returns-in-Ok-try_get_matches_from-clause-taken c =
     (c.in-Ok-try_get_matches_from.ensures.kinds (ap is_simple_and_free same ∙ is_clear)) in
     let found = (c.in-Ok-try_get_matches_from.ensures.matches (ap is_simple same ∙ is_read)).1
     ∙ ap (λ (a : App). subcommand_of a words) same in
-    IfOk-weaker c.asked.result _ _ (λ j h. (clear, subst ArePaired found (paired_of _ j h))) c.asked.ensures.ok
+    IfOk-weaker c.asked.result _ _ (λ j h. (clear, subst AreInOrder found (ordered_of _ j h))) c.asked.ensures.ok
 
 pub returns-in-Ok-try_get_matches_from-clause-asked : goal.returns-in-Ok-try_get_matches_from-clause-asked
 returns-in-Ok-try_get_matches_from-clause-asked c =
@@ -53,7 +53,8 @@ returns-in-Ok-try_get_matches_from-clause-usage c =
     let found = (c.in-Ok-try_get_matches_from.ensures.matches (ap is_simple same ∙ is_read)).1
     ∙ ap (λ (a : App). subcommand_of a words) same in
     IfErr-weaker c.asked.result _ _
-    (λ e h. usage_weaker _ _ e (λ unpaired taken. unpaired (subst ArePaired (sym found) taken.1)) h) c.asked.ensures.err
+    (λ e h. usage_weaker _ _ e (λ disordered taken. disordered (subst AreInOrder (sym found) taken.1)) h)
+    c.asked.ensures.err
 
 pub returns-in-Err-clause-usage : goal.returns-in-Err-clause-usage
 returns-in-Err-clause-usage c =

@@ -1,4 +1,4 @@
-use Rattle.std.proofs.Common.{◌≡◌, List, Ok, Some, inr, rules, string_bytes, subst, ℕ}
+use Rattle.std.proofs.Common.{◌≡◌, List, Ok, inr, rules, string_bytes, subst, ℕ}
 use Rattle.jt_program.specs.Commands.{DiagnosesRun}
 use Rattle.jt_host.specs.RunExplanations.{ExplainsRunTo}
 use Rattle.jt_host.specs.Templates.{source_of}
@@ -16,7 +16,7 @@ returns-clause-ends g c =
     let same : c.as_str.result.now ≡ string_bytes c.args.entry.name = search rules in
     let diagnoses :
     DiagnosesRun files (string_bytes c.args.entry.dir) (string_bytes c.args.entry.name) options
-    (Some c.args.context) b (Ok text) =
+    c.args.context.items b (Ok text) =
     record {
       sources = sources;
       library = c.in_ok-templates.ensures.library;

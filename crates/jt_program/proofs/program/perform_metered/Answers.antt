@@ -7,7 +7,7 @@ pub returns-in-Run-clause-ends : goal.returns-in-Run-clause-ends
 returns-in-Run-clause-ends g c =
     let files = g.F.Files.known (g.F.Files.contents c.args.files.now) in
     let b = c.args.job.budget in
-    let x = c.in-Run.context in
+    let x = c.in-Run.context.items in
     let image = string_bytes c.in-Run.image in
     let r = c.run_metered_at-metered.result in
     let e = c.keep_use.result in
@@ -23,7 +23,7 @@ pub returns-in-Run-clause-uses : goal.returns-in-Run-clause-uses
 returns-in-Run-clause-uses g c =
     let files = g.F.Files.known (g.F.Files.contents c.args.files.now) in
     let b = c.args.job.budget in
-    let x = c.in-Run.context in
+    let x = c.in-Run.context.items in
     let image = string_bytes c.in-Run.image in
     let r = c.run_metered_at-metered.result in
     let e = c.keep_use.result in
@@ -57,7 +57,7 @@ pub returns-in-Render-clause-ends : goal.returns-in-Render-clause-ends
 returns-in-Render-clause-ends g c =
     let files = g.F.Files.known (g.F.Files.contents c.args.files.now) in
     let b = c.args.job.budget in
-    let x = c.in-Render.context in
+    let x = c.in-Render.context.items in
     let dir = string_bytes c.in-Render.dir in
     let name = string_bytes c.in-Render.name in
     let o = c.args.job.options in
@@ -76,7 +76,7 @@ pub returns-in-Render-clause-uses : goal.returns-in-Render-clause-uses
 returns-in-Render-clause-uses g c =
     let files = g.F.Files.known (g.F.Files.contents c.args.files.now) in
     let b = c.args.job.budget in
-    let x = c.in-Render.context in
+    let x = c.in-Render.context.items in
     let dir = string_bytes c.in-Render.dir in
     let name = string_bytes c.in-Render.name in
     let o = c.args.job.options in

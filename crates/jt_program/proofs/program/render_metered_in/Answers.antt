@@ -7,7 +7,8 @@ use Rattle.jt_host.specs.Templates.{source_of}
 use Rattle.jt_program.specs.Commands.{RenderUses, Renders}
 use Rattle.jt_program.specs.Files.{IsLibrary, IsOfDirectory}
 use Rattle.jt_program.specs.declared.messages.Failure.TheVariants as failure
-use Rattle.jt_program.proofs.Uses.{lacks_other, uncompiled_other}
+use Rattle.jt_program.proofs.Parts.{lacks_other}
+use Rattle.jt_program.proofs.Uses.{uncompiled_other}
 use Rattle.jt_program.proofs.program.render_metered_in.Goals as goal
 
 pub returns-in_err-templates-clause-err : goal.returns-in_err-templates-clause-err
@@ -21,7 +22,7 @@ returns-in_err-templates-clause-unended g c =
     let files = g.F.Files.known (g.F.Files.contents c.args.files.now) in
     let dir = string_bytes c.args.entry.dir in
     let all = lacks_other files (IsOfDirectory files dir) ((sources : SourceTexts) × IsLibrary files dir sources)
-    c.args.context c.in_err-templates.field-0.0 c.in_err-templates.ensures.err in
+    c.args.context.items c.in_err-templates.field-0.0 c.in_err-templates.ensures.err in
     rw (p.1, p.2) all.1
 
 pub returns-in_err-templates-clause-other : goal.returns-in_err-templates-clause-other
@@ -30,7 +31,7 @@ returns-in_err-templates-clause-other g c =
     let files = g.F.Files.known (g.F.Files.contents c.args.files.now) in
     let dir = string_bytes c.args.entry.dir in
     let all = lacks_other files (IsOfDirectory files dir) ((sources : SourceTexts) × IsLibrary files dir sources)
-    c.args.context c.in_err-templates.field-0.0 c.in_err-templates.ensures.err in
+    c.args.context.items c.in_err-templates.field-0.0 c.in_err-templates.ensures.err in
     rw (p.1, p.2) all.0
 
 pub returns-clause-uses : goal.returns-clause-uses
@@ -43,7 +44,7 @@ returns-clause-uses g c =
     let m = c.in_ok-metered.field-0 in
     let same : c.as_str.result.now ≡ string_bytes c.args.entry.name = search rules in
     let uses :
-    RenderUses files (string_bytes c.args.entry.dir) (string_bytes c.args.entry.name) o c.args.context b
+    RenderUses files (string_bytes c.args.entry.dir) (string_bytes c.args.entry.name) o c.args.context.items b
     m.outcome m.used =
     record {
       sources = sources;
@@ -68,7 +69,7 @@ returns-in_err-metered-clause-err g c =
     let same : c.as_str.result.now ≡ string_bytes c.args.entry.name = search rules in
     let none = subst (λ (name : List ℕ). MetersTemplate sources name o x b (Err e)) same c.in_err-metered.ensures in
     let all = uncompiled_other sources entry o x b e none in
-    let renders : Renders files (string_bytes c.args.entry.dir) entry o c.args.context b (Err (failure.Call e)) =
+    let renders : Renders files (string_bytes c.args.entry.dir) entry o c.args.context.items b (Err (failure.Call e)) =
     record {
       sources = sources;
       library = c.in_ok-templates.ensures.library;
